@@ -1,40 +1,70 @@
-use Rattle.std.proofs.Common.{◌≡◌, ℕ, suc, ◌+◌, ◌-◌, ◌*◌, ◌/◌, ◌^◌, ◌<◌, ◌≤◌, max, Bool, List, ◌++◌, length, take, refl, sym, ap, ◌∙◌, subst, ⊎_elim, arith, length-append, suc-le-suc}
+use Rattle.std.proofs.Common.{◌≡◌, ℕ, zero, suc, ◌+◌, ◌-◌, ◌*◌, ◌/◌, ◌^◌, ◌<◌, ◌≤◌, max, Bool, true, false, ltb, inl, inr, List, ◌++◌, length, take, refl, sym, ap, ◌∙◌, subst, ⊎_elim, arith, length-append, suc-le-suc}
 use Rattle.std.specs.Int.Count.{count_leading_zeros}
 use Rattle.std.proofs.Math.Nat.{pow-suc}
 use Rattle.std.proofs.Math.Numerals.{add-one}
 use Rattle.std.proofs.Math.Pow.{pow_mono}
 use Rattle.std.proofs.lemmas.Nat.{leading_top, pow_pos, shr_high, pow-add, shl_below, mul-le}
-use Rattle.std.proofs.lemmas.Bool.{cases_lt}
+use Rattle.std.proofs.lemmas.Bool.{cases_Bool, cases_eq, cases_lt, lt-ltb, le-ltb}
 use Rattle.std.proofs.lemmas.List.{take_at}
 use Rattle.wg_bits.specs.Bits.{low_bits}
 use Rattle.wg_bits.proofs.LowBits.{length-low_bits, low_bits-add, low_bits-above, low_bits-injective}
 use Rattle.wg_bits.proofs.Numbers.{number_of, number_of-lt, low_bits-number_of}
 use Rattle.wg_codes.specs.declared.outcome.Read.TheVariants.{Value, Cut, NoWord}
 use Rattle.wg_codes.specs.Reading.{ProperlyBegins, Reads, after}
-use Rattle.wg_codes.specs.Words.{highest, with_low_bits}
+use Rattle.wg_codes.specs.Words.{first_where, highest, with_low_bits}
 use Rattle.wg_codes.specs.Parts.{IsNumberAt}
 use Rattle.wg_bits.specs.Bits.{Position, moved}
 use Rattle.wg_codes.proofs.Prefix.{Free, Headed, free_headed, no_head, cut_head, cut_tail, value_tail}
 
+-- ---- the first number that passes a test
+pub first_is : (test : ℕ → Bool) (v k n : ℕ) → k ≤ v → v ≤ k + n → test v ≡ true → ((u : ℕ) → u < v → test u ≡ false) → first_where test k n ≡ v
+unfolding first_where
+first_is test v k zero le most here none = omega (arith, le, most)
+first_is test v k (suc n) le most here none =
+    elim (cases_eq k v) [
+      | inl e ↦ rw (e, here) refl
+      | inr ne ↦ rw (none k (omega arith)) (first_is test v (suc k) n (omega arith) (omega (arith, most)) here none)
+    ]
+
+first_most : (test : ℕ → Bool) (k n : ℕ) → first_where test k n ≤ k + n
+unfolding first_where
+first_most test k zero = omega arith
+first_most test k (suc n) = elim (cases_Bool (test k)) [ inl e ↦ rw e (omega arith) | inr e ↦ rw e (omega (arith, first_most test (suc k) n)) ]
+
 -- ---- the index of the highest one
-pub highest_bounds : (y : ℕ) → 0 < y → y < 2 ^ 64 → (2 ^ highest y ≤ y) × (y < 2 ^ suc (highest y))
+pub highest_is : (y m : ℕ) → 2 ^ m ≤ y → y < 2 ^ suc m → m ≤ 63 → highest y ≡ m
 unfolding highest
-highest_bounds y pos l =
-    let t = leading_top 64 y pos l in
-    let j : ℕ = t.0 in
-    let e : 63 - count_leading_zeros 64 y ≡ j = omega (arith, t.1) in
-    (subst (λ k. 2 ^ k ≤ y) (sym e) t.2, subst (λ k. y < 2 ^ suc k) (sym e) t.3)
+highest_is y m low high few =
+    first_is (λ k. ltb y (2 ^ suc k)) m 0 63 (omega arith) (omega arith) (lt-ltb _ _ high)
+    (λ u l. le-ltb y (2 ^ suc u) (let p : 2 ^ suc u ≤ 2 ^ m = pow_mono l in omega arith))
+
+pub highest_small : (y : ℕ) → highest y ≤ 63
+unfolding highest
+highest_small y = first_most _ 0 63
 
 pub highest_zero : highest 0 ≡ 0
-unfolding highest count_leading_zeros
+unfolding highest first_where
 highest_zero = refl
 
+-- for a machine word it is what its leading zeros leave
+zeros_left : (y : ℕ) → 0 < y → y < 2 ^ 64 → (63 - count_leading_zeros 64 y ≡ highest y) × (2 ^ highest y ≤ y) × (y < 2 ^ suc (highest y))
+zeros_left y pos l =
+    let t = leading_top 64 y pos l in
+    let e : highest y ≡ t.0 = highest_is y t.0 t.2 t.3 (omega (arith, t.1)) in
+    (omega (arith, e, t.1), subst (λ k. 2 ^ k ≤ y) (sym e) t.2, subst (λ k. y < 2 ^ suc k) (sym e) t.3)
+
+pub highest_bounds : (y : ℕ) → 0 < y → y < 2 ^ 64 → (2 ^ highest y ≤ y) × (y < 2 ^ suc (highest y))
+highest_bounds y pos l = let z = zeros_left y pos l in (z.1, z.2)
+
+one_left : 63 - count_leading_zeros 64 1 ≡ 0
+unfolding count_leading_zeros
+one_left = refl
+
 -- 0 has the index of 1
-pub highest_of_max : (y m : ℕ) → m ≡ max y 1 → 63 - count_leading_zeros 64 m ≡ highest y
-unfolding highest count_leading_zeros
-highest_of_max y m e = ⊎_elim
-    (λ (none : y < 1). let z : y ≡ 0 = omega arith in let o : m ≡ 1 = omega arith in ap (λ k. 63 - count_leading_zeros 64 k) o ∙ sym (ap highest z))
-    (λ (some : 1 ≤ y). let o : m ≡ y = omega arith in ap (λ k. 63 - count_leading_zeros 64 k) o)
+pub highest_of_max : (y m : ℕ) → y < 2 ^ 64 → m ≡ max y 1 → 63 - count_leading_zeros 64 m ≡ highest y
+highest_of_max y m few e = ⊎_elim
+    (λ (none : y < 1). let z : y ≡ 0 = omega arith in let o : m ≡ 1 = omega arith in rw (z, o, highest_zero) one_left)
+    (λ (some : 1 ≤ y). let o : m ≡ y = omega arith in rw o (zeros_left y some few).0)
     (cases_lt y 1)
 
 pub between_powers : (y i j : ℕ) → 2 ^ i ≤ y → y < 2 ^ suc j → i ≤ j
@@ -42,15 +72,6 @@ between_powers y i j l h = ⊎_elim
     (λ (m : j < i). let p : 2 ^ suc j ≤ 2 ^ i = pow_mono m in absurd (omega arith))
     (λ (m : i ≤ j). m)
     (cases_lt j i)
-
-pub highest_is : (y m : ℕ) → 2 ^ m ≤ y → y < 2 ^ suc m → m ≤ 63 → highest y ≡ m
-highest_is y m low high few =
-    let pos : 0 < 2 ^ m = pow_pos m in
-    let big : 2 ^ suc m ≤ 2 ^ 64 = pow_mono (suc-le-suc few) in
-    let b = highest_bounds y (omega arith) (omega arith) in
-    let up = between_powers y (highest y) m b.0 high in
-    let down = between_powers y m (highest y) low b.1 in
-    omega arith
 
 -- a number below a power has its highest one below
 pub highest_below : (y k : ℕ) → 0 < y → y < 2 ^ suc k → k ≤ 63 → highest y ≤ k

@@ -7,12 +7,8 @@ use Rattle.wg_params.specs.declared.code.Code.{Code}
 use Rattle.wg_params.specs.declared.code.Code.TheVariants.{Unary, Gamma, Delta, Zeta, Nibble}
 use Rattle.wg_codes.specs.Words.{word, top, highest, gamma}
 use Rattle.wg_codes.specs.Laws.{WordsAreShort}
-use Rattle.wg_codes.proofs.Highest.{highest_below}
+use Rattle.wg_codes.proofs.Highest.{highest_small, highest_below}
 use Rattle.wg_codes.proofs.Lengths.{length-gamma, length-delta, length-nibble, head_room, length-zeta_short, length-zeta_long}
-
-highest_small : (y : ℕ) → highest y ≤ 63
-unfolding highest
-highest_small y = omega arith
 
 short_gamma : (v : ℕ) → length (gamma v) ≤ 127
 short_gamma v = omega (arith, length-gamma v (highest (v + 1)) refl, highest_small (v + 1))

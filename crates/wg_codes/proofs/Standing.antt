@@ -1,9 +1,9 @@
 -- A word that stands at some bits is the one that is read there, and its value is a function of the bits.
-use Rattle.std.proofs.Common.{◌≡◌, ℕ, zero, suc, ◌+◌, ◌<◌, ◌≤◌, Bool, true, false, inl, inr, List, ◌++◌, length, drop, refl, sym, ap, ◌∙◌, arith}
+use Rattle.std.proofs.Common.{◌≡◌, ℕ, ◌+◌, ◌<◌, ◌≤◌, Bool, true, false, inl, inr, List, ◌++◌, length, drop, refl, sym, ap, ◌∙◌, arith}
 use Rattle.std.proofs.Math.Bool.{beq}
 use Rattle.std.specs.Cmp.{booleans_Decides}
 use Rattle.std.specs.List.{starts_with}
-use Rattle.std.proofs.lemmas.Bool.{cases_Bool, cases_eq}
+use Rattle.std.proofs.lemmas.Bool.{cases_Bool}
 use Rattle.std.proofs.lemmas.List.{append_cancel_left, drop_at}
 use Rattle.std.proofs.lemmas.Slice.Eq.{starts_is}
 use Rattle.wg_params.specs.declared.code.Code.{Code}
@@ -12,8 +12,9 @@ use Rattle.wg_codes.specs.declared.outcome.Read.{Read}
 use Rattle.wg_codes.specs.declared.outcome.Read.TheVariants.{Value, Cut, NoWord}
 use Rattle.wg_codes.specs.Words.{word, top}
 use Rattle.wg_codes.specs.Reading.{Reads}
-use Rattle.wg_codes.specs.Standing.{IsWord, first_where, value_at, behind_value}
+use Rattle.wg_codes.specs.Standing.{IsWord, value_at, behind_value}
 use Rattle.wg_codes.proofs.CodeLaws.{words_free, one_result}
+use Rattle.wg_codes.proofs.Highest.{first_is}
 
 -- 1 at a value
 abbrev number_of : Read → ℕ
@@ -35,15 +36,6 @@ read_one c is v w bits behind after stand le e =
     (same, append_cancel_left (word c w) behind after (ap (λ (k : ℕ). word c k ++ behind) (sym same) ∙ sym stand.1 ∙ e))
 
 -- ---- the value as a function of the bits
-
-first_is : (test : ℕ → Bool) (v k n : ℕ) → k ≤ v → v ≤ k + n → test v ≡ true → ((u : ℕ) → u < v → test u ≡ false) → first_where test k n ≡ v
-unfolding first_where
-first_is test v k zero le most here none = omega (arith, le, most)
-first_is test v k (suc n) le most here none =
-    elim (cases_eq k v) [
-      | inl e ↦ rw (e, here) refl
-      | inr ne ↦ rw (none k (omega arith)) (first_is test v (suc k) n (omega arith) (omega (arith, most)) here none)
-    ]
 
 begins_is : (c : Code) (bits : List Bool) (v : ℕ) → (starts_with beq bits (word c v) ≡ true → bits ≡ word c v ++ drop (length (word c v)) bits) × ((behind : List Bool) → bits ≡ word c v ++ behind → starts_with beq bits (word c v) ≡ true)
 begins_is c bits v = starts_is booleans_Decides bits (word c v) (starts_with beq bits (word c v)) refl

@@ -1,18 +1,13 @@
 -- What stands at some bits, as a function of the bits: the values whose words stand there one after the other.
-use Rattle.std.specs.Prelude.{◌≡◌, ℕ, zero, suc, ◌≤◌, Bool, if◌then◌else◌, List, [], ◌∷◌, ◌++◌, length, drop}
+use Rattle.std.specs.Prelude.{◌≡◌, ℕ, zero, suc, ◌≤◌, Bool, List, [], ◌∷◌, ◌++◌, length, drop}
 use Rattle.std.specs.List.{starts_with}
 use Rattle.std.proofs.Math.Bool.{beq}
 use Rattle.wg_params.specs.declared.code.Code.{Code}
-use Rattle.wg_codes.specs.Words.{word, top}
+use Rattle.wg_codes.specs.Words.{first_where, word, top}
 
 -- the word of v stands at the bits, with these behind it
 abbrev pub IsWord : Code → ℕ → List Bool → List Bool → Type 0
 IsWord c v bits behind = (v ≤ top c) × (bits ≡ word c v ++ behind)
-
--- of the n numbers from k on, the first that passes the test; k + n if none does
-unfoldable pub first_where : (ℕ → Bool) → ℕ → ℕ → ℕ
-first_where test k zero = k
-first_where test k (suc n) = if test k then k else first_where test (suc k) n
 
 -- the value whose word the bits begin with; the greatest, if they begin with none
 unfoldable pub value_at : Code → List Bool → ℕ

@@ -1,13 +1,17 @@
 -- The word of each value in each code, and the greatest value that a code has.
 use Rattle.std.specs.Prelude.{ℕ, zero, suc, ◌+◌, ◌-◌, ◌*◌, ◌/◌, ◌^◌, Bool, true, false, nat_lt, if◌then◌else◌, List, [], ◌∷◌, ◌++◌, replicate}
-use Rattle.std.specs.Int.Count.{count_leading_zeros}
 use Rattle.wg_bits.specs.Bits.{low_bits}
 use Rattle.wg_params.specs.declared.code.Code.{Code}
 use Rattle.wg_params.specs.declared.code.Code.TheVariants.{Unary, Gamma, Delta, Zeta, Nibble}
 
--- the index of the highest one of a y below 2 ^ 64, the lowest index being 0
+-- of the n numbers from k on, the first that passes the test; k + n if none does
+unfoldable pub first_where : (ℕ → Bool) → ℕ → ℕ → ℕ
+first_where test k zero = k
+first_where test k (suc n) = if test k then k else first_where test (suc k) n
+
+-- the index of the highest one of a y below 2 ^ 64, the lowest index being 0; 0 for no one at all
 unfoldable pub highest : ℕ → ℕ
-highest y = 63 - count_leading_zeros 64 y
+highest y = first_where (λ m. nat_lt y (2 ^ suc m)) 0 63
 
 -- v zero bits, then a one
 unfoldable pub unary : ℕ → List Bool

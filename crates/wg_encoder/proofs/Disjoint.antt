@@ -2,7 +2,6 @@
 -- shorter than without a reference.
 use Rattle.std.proofs.Common.{◌≡◌, ℕ, ◌+◌, ◌≤◌, ltb, true, false, List, [], ◌∷◌, ◌++◌, length, refl, sym, ap, ◌∙◌, inl, inr, arith}
 use Rattle.std.specs.Prelude.{Some, None}
-use Rattle.std.specs.Int.Count.{count_leading_zeros}
 use Rattle.std.proofs.lemmas.Bool.{cases_Bool, or_parts, cond-true, cond-false}
 use Rattle.wg_graph.specs.Numbers.{is_in}
 use Rattle.wg_params.specs.declared.code.Code.{Code}
@@ -10,7 +9,7 @@ use Rattle.wg_params.specs.declared.code.Code.TheVariants.{Gamma, Delta}
 use Rattle.wg_params.specs.Codes.{is_unary_gamma_or_delta}
 use Rattle.wg_params.specs.Parameters.{Parameters, IsWithinLimits}
 use Rattle.wg_params.proofs.FieldCodes.{three_codes}
-use Rattle.wg_codes.specs.Words.{highest, word}
+use Rattle.wg_codes.specs.Words.{first_where, highest, word}
 use Rattle.wg_codes.proofs.UnaryWords.{length-unary}
 use Rattle.wg_codes.proofs.Lengths.{length-gamma, length-delta}
 use Rattle.wg_codes.proofs.CodeLaws.{word_some}
@@ -33,7 +32,7 @@ nothing_shared (y ∷ ys) other none =
 -- ---- the reference: no word is shorter than that of 0
 
 lowest : 0 ≡ highest (0 + 1)
-unfolding highest count_leading_zeros
+unfolding highest first_where
 lowest = refl
 
 shortest_word : (code : Code) (r : ℕ) → is_unary_gamma_or_delta code ≡ true → length (word code 0) ≤ length (word code r)

@@ -2,9 +2,8 @@
 use Rattle.std.proofs.Common.{◌≡◌, ℕ, Bool, true, false, ◌==◌, List, [], ◌∷◌, drop, Some, Ok, Err, refl, lit<, lit≤}
 use Rattle.wg_params.specs.Parameters.{Parameters}
 use Rattle.wg_params.specs.declared.code.Code.TheVariants.{Unary, Gamma, Zeta}
-use Rattle.std.specs.Int.Count.{count_leading_zeros}
 use Rattle.wg_bits.specs.Bits.{low_bits}
-use Rattle.wg_codes.specs.Words.{highest, unary, gamma, zeta}
+use Rattle.wg_codes.specs.Words.{first_where, highest, unary, gamma, zeta}
 use Rattle.wg_codes.specs.declared.outcome.Read.TheVariants as reads
 use Rattle.wg_graph.specs.Copied.{copied_members}
 use Rattle.wg_grammar.specs.declared.fault.Field.TheVariants as field
@@ -62,7 +61,7 @@ empty_first_block = refl
 
 -- of two pages, page 0 has the successor 1
 one_residual : ReadsRecord (usual 2 1 4) page_0 (spelled (0 ∷ 1 ∷ 0 ∷ 1 ∷ 1 ∷ 1 ∷ 0 ∷ 1 ∷ 1 ∷ [])) 0 (Ok (record { known = record { list = 1 ∷ []; depth = 0 }; end = 9 }))
-unfolding usual spelled page_0 next refusal after list_of copied_members highest unary gamma zeta low_bits count_leading_zeros
+unfolding usual spelled page_0 next refusal after list_of copied_members highest unary gamma zeta low_bits first_where
 one_residual =
     let bits = spelled (0 ∷ 1 ∷ 0 ∷ 1 ∷ 1 ∷ 1 ∷ 0 ∷ 1 ∷ 1 ∷ []) in
     let s1 = after (usual 2 1 4) page_0 nothing_yet field.Outdegree 1 in
@@ -73,7 +72,7 @@ one_residual =
 
 -- intervals 1, 2 and 4, 5 if the least length is 2
 two_intervals : ReadsRecord (usual 6 4 2) page_0 (spelled (0 ∷ 0 ∷ 1 ∷ 0 ∷ 1 ∷ 1 ∷ 0 ∷ 1 ∷ 1 ∷ 0 ∷ 1 ∷ 1 ∷ 1 ∷ 1 ∷ 1 ∷ [])) 0 (Ok (record { known = record { list = 1 ∷ 2 ∷ 4 ∷ 5 ∷ []; depth = 0 }; end = 15 }))
-unfolding usual spelled page_0 next refusal after list_of copied_members highest unary gamma zeta low_bits count_leading_zeros
+unfolding usual spelled page_0 next refusal after list_of copied_members highest unary gamma zeta low_bits first_where
 two_intervals =
     let bits = spelled (0 ∷ 0 ∷ 1 ∷ 0 ∷ 1 ∷ 1 ∷ 0 ∷ 1 ∷ 1 ∷ 0 ∷ 1 ∷ 1 ∷ 1 ∷ 1 ∷ 1 ∷ []) in
     let s1 = after (usual 6 4 2) page_0 nothing_yet field.Outdegree 4 in
@@ -87,7 +86,7 @@ two_intervals =
 
 -- of the page before, 1 is copied, 3 is skipped, and the rest is copied
 two_blocks : ReadsRecord (usual 8 7 4) page_1 (spelled (0 ∷ 0 ∷ 1 ∷ 0 ∷ 0 ∷ 0 ∷ 1 ∷ 0 ∷ 1 ∷ 1 ∷ 0 ∷ 1 ∷ 0 ∷ 1 ∷ [])) 0 (Ok (record { known = record { list = 1 ∷ 5 ∷ 7 ∷ []; depth = 1 }; end = 14 }))
-unfolding usual spelled page_1 next refusal after list_of copied_members highest unary gamma zeta low_bits count_leading_zeros
+unfolding usual spelled page_1 next refusal after list_of copied_members highest unary gamma zeta low_bits first_where
 two_blocks =
     let bits = spelled (0 ∷ 0 ∷ 1 ∷ 0 ∷ 0 ∷ 0 ∷ 1 ∷ 0 ∷ 1 ∷ 1 ∷ 0 ∷ 1 ∷ 0 ∷ 1 ∷ []) in
     let s1 = after (usual 8 7 4) page_1 nothing_yet field.Outdegree 3 in
@@ -100,7 +99,7 @@ two_blocks =
 
 -- a reference past page 0
 reference_too_far : ReadsRecord (usual 8 7 4) page_1 (spelled (0 ∷ 1 ∷ 0 ∷ 0 ∷ 0 ∷ 1 ∷ [])) 0 (Err (record { page = 1; at = 3; field = field.Reference; kind = kind.Range }))
-unfolding usual spelled page_1 next refusal after list_of copied_members highest unary gamma zeta low_bits count_leading_zeros
+unfolding usual spelled page_1 next refusal after list_of copied_members highest unary gamma zeta low_bits first_where
 reference_too_far =
     let bits = spelled (0 ∷ 1 ∷ 0 ∷ 0 ∷ 0 ∷ 1 ∷ []) in
     let s1 = after (usual 8 7 4) page_1 nothing_yet field.Outdegree 1 in
@@ -108,7 +107,7 @@ reference_too_far =
 
 -- four members are copied if there are three successors
 more_copied_than_successors : ReadsRecord (usual 8 7 4) page_1 (spelled (0 ∷ 0 ∷ 1 ∷ 0 ∷ 0 ∷ 0 ∷ 1 ∷ 1 ∷ [])) 0 (Err (record { page = 1; at = 8; field = field.Copied; kind = kind.Copied }))
-unfolding usual spelled page_1 next refusal after list_of copied_members highest unary gamma zeta low_bits count_leading_zeros
+unfolding usual spelled page_1 next refusal after list_of copied_members highest unary gamma zeta low_bits first_where
 more_copied_than_successors =
     let bits = spelled (0 ∷ 0 ∷ 1 ∷ 0 ∷ 0 ∷ 0 ∷ 1 ∷ 1 ∷ []) in
     let s1 = after (usual 8 7 4) page_1 nothing_yet field.Outdegree 3 in
@@ -118,7 +117,7 @@ more_copied_than_successors =
 
 -- the residual 3 is copied too
 residual_copied_too : ReadsRecord (usual 8 9 4) page_1 (spelled (0 ∷ 0 ∷ 1 ∷ 1 ∷ 0 ∷ 0 ∷ 1 ∷ 1 ∷ 1 ∷ 1 ∷ 1 ∷ 0 ∷ 1 ∷ [])) 0 (Err (record { page = 1; at = 0; field = field.Record; kind = kind.Twice }))
-unfolding usual spelled page_1 next refusal after list_of copied_members highest unary gamma zeta low_bits count_leading_zeros
+unfolding usual spelled page_1 next refusal after list_of copied_members highest unary gamma zeta low_bits first_where
 residual_copied_too =
     let bits = spelled (0 ∷ 0 ∷ 1 ∷ 1 ∷ 0 ∷ 0 ∷ 1 ∷ 1 ∷ 1 ∷ 1 ∷ 1 ∷ 0 ∷ 1 ∷ []) in
     let s1 = after (usual 8 9 4) page_1 nothing_yet field.Outdegree 5 in
@@ -131,7 +130,7 @@ residual_copied_too =
 
 -- the bits end inside the outdegree
 cut_in_a_field : ReadsRecord (usual 8 9 4) page_0 (spelled (0 ∷ 0 ∷ [])) 0 (Err (record { page = 0; at = 0; field = field.Outdegree; kind = kind.Cut }))
-unfolding usual spelled page_0 next refusal after list_of copied_members highest unary gamma zeta low_bits count_leading_zeros
+unfolding usual spelled page_0 next refusal after list_of copied_members highest unary gamma zeta low_bits first_where
 cut_in_a_field =
     let bits = spelled (0 ∷ 0 ∷ []) in
     ([], nothing_yet, 0, (refl, refl), ((reads.Cut, (3, lit≤ tt, (true ∷ false ∷ false ∷ [], lit< tt, refl)), refl, refl, refl), refl))

@@ -14,6 +14,7 @@ use Rattle.wg_params.specs.Codes.{is_gamma_or_delta, is_unary_gamma_or_delta, is
 use Rattle.wg_params.specs.Parameters.{Parameters, IsWithinLimits}
 use Rattle.wg_params.proofs.FieldCodes.{two_codes, three_codes, four_codes}
 use Rattle.wg_codes.specs.Words.{highest, gamma, delta, zeta, nibble, digits, shortened, word}
+use Rattle.wg_codes.proofs.Highest.{highest_small}
 use Rattle.wg_codes.proofs.UnaryWords.{length-unary}
 use Rattle.wg_codes.proofs.Lengths.{length-gamma, length-delta}
 use Rattle.wg_codes.proofs.ZetaWords.{zeta_span}
@@ -31,15 +32,11 @@ use Rattle.wg_greedy.proofs.NoReference.{cut_low, cut_few, few_where, short_list
 
 -- ---- words
 
-low_highest : (y : ℕ) → highest y ≤ 63
-unfolding highest
-low_highest y = omega arith
-
 pub gamma_short : (v : ℕ) → length (gamma v) ≤ 2 ^ 7
-gamma_short v = omega (arith, length-gamma v (highest (v + 1)) refl, low_highest (v + 1))
+gamma_short v = omega (arith, length-gamma v (highest (v + 1)) refl, highest_small (v + 1))
 
 delta_short : (v : ℕ) → length (delta v) ≤ 2 ^ 8
-delta_short v = omega (arith, length-delta v (highest (v + 1)) refl, low_highest (v + 1), gamma_short (highest (v + 1)))
+delta_short v = omega (arith, length-delta v (highest (v + 1)) refl, highest_small (v + 1), gamma_short (highest (v + 1)))
 
 digits_short : (n v : ℕ) → length (digits n v) ≤ 4 * n
 unfolding digits
@@ -49,7 +46,7 @@ digits_short (suc (suc n)) v = omega (arith, length-append (low_bits 3 (v / 8 ^ 
 
 nibble_short : (v : ℕ) → length (nibble v) ≤ 2 ^ 8
 unfolding nibble
-nibble_short v = omega (arith, digits_short (highest v / 3 + 1) v, low_highest v)
+nibble_short v = omega (arith, digits_short (highest v / 3 + 1) v, highest_small v)
 
 shortened_short : (k h y : ℕ) → length (shortened k h y) ≤ h * k + k
 shortened_short k h y = grind (arith, cases_Bool, length-low_bits)
@@ -57,7 +54,7 @@ shortened_short k h y = grind (arith, cases_Bool, length-low_bits)
 zeta_short : (k v : ℕ) → k ≤ 31 → length (zeta k v) ≤ 2 ^ 8
 zeta_short k v few =
     let h : ℕ = highest (v + 1) / k in
-    omega (arith, zeta_span k h v refl, shortened_short k h (v + 1), div-mul-le_self (highest (v + 1)) k, div-le_self (highest (v + 1)) k, low_highest (v + 1))
+    omega (arith, zeta_span k h v refl, shortened_short k h (v + 1), div-mul-le_self (highest (v + 1)) k, div-le_self (highest (v + 1)) k, highest_small (v + 1))
 
 -- outdegrees and blocks
 pub outdegree_short : (code : Code) (v : ℕ) → is_gamma_or_delta code ≡ true → length (word code v) ≤ 2 ^ 8

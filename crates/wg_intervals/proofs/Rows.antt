@@ -1,15 +1,14 @@
 -- Intervals that are spelled bit by bit, and intervals of lists.
 use Rattle.std.proofs.Common.{◌≡◌, [], ◌∷◌, drop, refl, lit≤}
 use Rattle.std.specs.Prelude.{None}
-use Rattle.std.specs.Int.Count.{count_leading_zeros}
 use Rattle.wg_bits.specs.Bits.{low_bits, bits_of}
-use Rattle.wg_codes.specs.Words.{highest, unary, gamma}
+use Rattle.wg_codes.specs.Words.{first_where, highest, unary, gamma}
 use Rattle.wg_intervals.specs.Stored.{IntervalsStandAt}
 use Rattle.wg_intervals.specs.Canonical.{runs_of, intervals_of, residuals_of, ends_and_lengths}
 
 -- 011 1 1 1, and two bits that belong to nothing
 pub two_of_the_least_length : IntervalsStandAt 0 2 None 2 (bits_of (124 ∷ []))
-unfolding bits_of low_bits gamma highest unary count_leading_zeros
+unfolding bits_of low_bits gamma highest unary first_where
 two_of_the_least_length =
     let bits = bits_of (124 ∷ []) in (
       1 ∷ 4 ∷ [],
@@ -24,7 +23,7 @@ two_of_the_least_length =
 
 -- 00110 010
 pub one_before_the_page : IntervalsStandAt 10 2 None 1 (bits_of (50 ∷ []))
-unfolding bits_of low_bits gamma highest unary count_leading_zeros
+unfolding bits_of low_bits gamma highest unary first_where
 one_before_the_page =
     let bits = bits_of (50 ∷ []) in (
       7 ∷ [],
@@ -35,7 +34,7 @@ one_before_the_page =
 
 -- 011 1 1 010 1 1, and six bits that belong to nothing
 pub two_empty : IntervalsStandAt 0 0 None 3 (bits_of (122 ∷ 192 ∷ []))
-unfolding bits_of low_bits gamma highest unary count_leading_zeros
+unfolding bits_of low_bits gamma highest unary first_where
 two_empty =
     let bits = bits_of (122 ∷ 192 ∷ []) in (
       1 ∷ 2 ∷ 4 ∷ [],
