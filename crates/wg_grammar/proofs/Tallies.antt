@@ -14,19 +14,16 @@ use Rattle.wg_grammar.specs.declared.need.Need.TheVariants as need
 use Rattle.wg_grammar.specs.declared.progress.Referenced.{Referenced}
 use Rattle.wg_grammar.specs.Context.{Context, referenced, depth_of}
 use Rattle.wg_grammar.specs.SoFar.{SoFar, value_or_0, last_of, source, own_block, own_left, own_residual, after}
-use Rattle.wg_grammar.specs.Next.{next}
-use Rattle.wg_grammar.specs.Refusal.{passes, refusal}
-use Rattle.wg_grammar.specs.Tally.{Tally, tally, Follows, need_of}
+use Rattle.wg_grammar.specs.Next.{next, need_of}
+use Rattle.wg_grammar.specs.Refusal.{passes, refusal, refusal_of}
+use Rattle.wg_grammar.specs.Tally.{Tally, tally, Follows}
 use Rattle.wg_grammar.specs.Judging.{named, Gives}
-use Rattle.wg_grammar.specs.Steps.{given_length, given_depth, refusal_of, after_of, Due}
+use Rattle.wg_grammar.specs.Steps.{given_length, given_depth, after_of, Due}
 use Rattle.wg_grammar.proofs.Chain.{field_of, tests, tested}
 
-pub next_by_numbers : (p : Parameters) (c : Context) (s : SoFar) → next p c s ≡ need_of (tally p c s)
-unfolding next need_of
-next_by_numbers p c s = refl
-
 pub need_follows : (q : Tally) (p : Parameters) (c : Context) (s : SoFar) → Follows q p c s → need_of q ≡ next p c s
-need_follows q p c s f = ap need_of f ∙ sym (next_by_numbers p c s)
+unfolding next
+need_follows q p c s f = ap need_of f
 
 -- ---- what is so if a field is next
 
@@ -48,7 +45,7 @@ due_of t field.Residual e = ltb-true _ _ e.0
 due_of t field.Record e = tt
 
 pub due : (t : Tally) (f : Field) (code : Code) → need_of t ≡ need.Read f code → Due t f
-unfolding need_of tests
+unfolding tests
 due t f code e = due_of t f (subst (tests t) (ap field_of e) (tested t.params _ _ _ _ _ _ _ _ _ _))
 
 -- ---- refusals
@@ -65,12 +62,12 @@ reference_refusal : (b : Bool) (r : Option ℕ) (x y : ℕ) → (b ≡ false →
 reference_refusal true r x y e = refl
 reference_refusal false r x y e = ap (λ (d : ℕ). cond (passes r d) (Some kind.Chain) None) (e refl)
 
-pub chain_refused : (t : Tally) (given : Option Referenced) (v limit : ℕ) → v ≤ min t.params.window t.page → t.params.chain ≡ Some limit → limit < given_depth given → refusal_of t given field.Reference v ≡ Some kind.Chain
-unfolding refusal_of
-chain_refused t given v limit near has deep = rw (le-ltb _ _ near, has, lt-ltb _ _ deep) refl
+pub chain_refused : (most : ℕ) (chain : Option ℕ) (depth v limit : ℕ) → v ≤ most → chain ≡ Some limit → limit < depth →
+    cond (ltb most v) (Some kind.Range) (cond (passes chain depth) (Some kind.Chain) None) ≡ Some kind.Chain
+chain_refused most chain depth v limit near has deep = rw (le-ltb _ _ near, has, lt-ltb _ _ deep) refl
 
-pub refusal_by_numbers : (p : Parameters) (c : Context) (s : SoFar) (given : Option Referenced) (f : Field) (v : ℕ) → Gives given p c f v → refusal_of (tally p c s) given f v ≡ refusal p c s f v
-unfolding refusal refusal_of
+pub refusal_by_numbers : (p : Parameters) (c : Context) (s : SoFar) (given : Option Referenced) (f : Field) (v : ℕ) → Gives given p c f v → refusal_of (tally p c s) (given_depth given) f v ≡ refusal p c s f v
+unfolding refusal
 refusal_by_numbers p c s given field.Outdegree v g = refl
 refusal_by_numbers p c s given field.Reference v g =
     reference_refusal (ltb (min p.window c.page) v) p.chain _ _ (λ low. rw (g refl) (depth_named p c v (ltb-false _ _ low)))
@@ -117,12 +114,12 @@ after_by_numbers p c s given field.Record v g early fine = refl
 
 -- the numbers check a value as the record does
 pub refusal_follows : (q : Tally) (p : Parameters) (c : Context) (s : SoFar) (given : Option Referenced) (f : Field) (v : ℕ) →
-    Follows q p c s → Gives given p c f v → refusal p c s f v ≡ refusal_of q given f v
-refusal_follows q p c s given f v follows gives = sym (ap (λ (t : Tally). refusal_of t given f v) follows ∙ refusal_by_numbers p c s given f v gives)
+    Follows q p c s → Gives given p c f v → refusal p c s f v ≡ refusal_of q (given_depth given) f v
+refusal_follows q p c s given f v follows gives = sym (ap (λ (t : Tally). refusal_of t (given_depth given) f v) follows ∙ refusal_by_numbers p c s given f v gives)
 
 -- a value that is taken
 pub accepted : (q q' : Tally) (p : Parameters) (c : Context) (s : SoFar) (given : Option Referenced) (f : Field) (v : ℕ) →
-    Follows q p c s → Gives given p c f v → (f ≡ field.Reference → q.blocks ≡ 0) → refusal_of q given f v ≡ None → q' ≡ after_of q given f v →
+    Follows q p c s → Gives given p c f v → (f ≡ field.Reference → q.blocks ≡ 0) → refusal_of q (given_depth given) f v ≡ None → q' ≡ after_of q given f v →
     (refusal p c s f v ≡ None) × Follows q' p c (after p c s f v)
 accepted q q' p c s given f v follows gives early fine new =
     let allowed : refusal p c s f v ≡ None = refusal_follows q p c s given f v follows gives ∙ fine in

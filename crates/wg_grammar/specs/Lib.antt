@@ -1,12 +1,12 @@
 pub mod Context
 pub mod SoFar
+pub mod Tally
 pub mod Next
 pub mod Refusal
 pub mod Members
 pub mod Record
 pub mod Archive
 pub mod Laws
-pub mod Tally
 pub mod Judging
 pub mod Steps
 pub mod Standing

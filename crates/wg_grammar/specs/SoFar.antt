@@ -58,18 +58,18 @@ missing c s = extra c s - (sum s.lengths + length s.residuals)
 abbrev pub own_block : SoFar → ℕ → ℕ
 own_block s v = block_at (length s.blocks) v
 
--- The first left end is stored as the fold of its distance from the page, a later one as its distance from the end of
--- the interval before, less 1, where the end is one past the last number; none if the number would be below 0.
-abbrev pub own_left : Context → SoFar → ℕ → Option ℕ
-own_left c s v =
-    if length s.lefts == 0 then number_of_gap c.page None v
-    else number_of_gap c.page (Some (last_of s.lefts + last_of s.lengths)) v
+-- The first of several numbers is stored as the fold of its distance from the page, a later one as its distance from
+-- what comes before it, less 1; none if the number would be below 0.
+abbrev pub own_number : ℕ → ℕ → ℕ → ℕ → Option ℕ
+own_number page count before v = if count == 0 then number_of_gap page None v else number_of_gap page (Some before) v
 
--- The first residual is stored as the fold of its distance from the page, a later one as the distance from the one
--- before it, less 1.
+-- a left end after the end of the interval before, which is one past its last number
+abbrev pub own_left : Context → SoFar → ℕ → Option ℕ
+own_left c s v = own_number c.page (length s.lefts) (last_of s.lefts + last_of s.lengths) v
+
+-- a residual after the one before it
 abbrev pub own_residual : Context → SoFar → ℕ → Option ℕ
-own_residual c s v = if length s.residuals == 0 then number_of_gap c.page None v
-    else number_of_gap c.page (Some (last_of s.residuals)) v
+own_residual c s v = own_number c.page (length s.residuals) (last_of s.residuals) v
 
 -- what has been read after one more stored value
 unfoldable pub after : Parameters → Context → SoFar → Field → ℕ → SoFar

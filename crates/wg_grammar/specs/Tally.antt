@@ -1,10 +1,7 @@
--- What a `Progress` is seen as: numbers of what has been read of a record. What comes next can be told from them.
-use Rattle.std.specs.Prelude.{◌≡◌, ℕ, ◌+◌, ◌-◌, Bool, not, ◌&&◌, ◌==◌, nat_lt, if◌then◌else◌, length, sum, Option, is_none}
+-- Numbers of what has been read of a record, from which all is told that comes next and that is allowed. A `Progress` is
+-- seen as them.
+use Rattle.std.specs.Prelude.{◌≡◌, ℕ, ◌+◌, ◌-◌, Bool, length, sum, Option}
 use Rattle.wg_params.specs.Parameters.{Parameters}
-use Rattle.wg_params.specs.declared.code.Code.TheVariants.{Gamma}
-use Rattle.wg_grammar.specs.declared.fault.Field.TheVariants as field
-use Rattle.wg_grammar.specs.declared.need.Need.{Need}
-use Rattle.wg_grammar.specs.declared.need.Need.TheVariants as need
 use Rattle.wg_grammar.specs.Context.{Context}
 use Rattle.wg_grammar.specs.SoFar.{SoFar, value_or_0, last_of, source, copied}
 
@@ -65,20 +62,3 @@ extra_of t = value_or_0 t.outdegree - t.copied
 
 abbrev pub missing_of : Tally → ℕ
 missing_of t = extra_of t - (t.covered + t.residuals)
-
--- what is needed next, by the numbers
-unfoldable pub need_of : Tally → Need
-need_of t =
-    if is_none t.outdegree then need.Read field.Outdegree t.params.outdegrees
-    else if value_or_0 t.outdegree == 0 then need.End
-    else if nat_lt 0 t.params.window && is_none t.reference then need.Read field.Reference t.params.references
-    else if nat_lt 0 (value_or_0 t.reference) && is_none t.block_count
-    then need.Read field.BlockCount t.params.block_counts
-    else if nat_lt t.blocks (value_or_0 t.block_count) then need.Read field.Block t.params.blocks
-    else if nat_lt 0 (value_or_0 t.reference) && not t.checked then need.Check
-    else if nat_lt 0 (extra_of t) && nat_lt 0 t.params.interval && is_none t.interval_count
-    then need.Read field.IntervalCount Gamma
-    else if nat_lt t.lengths t.lefts then need.Read field.Length Gamma
-    else if nat_lt t.lefts (value_or_0 t.interval_count) then need.Read field.Left Gamma
-    else if nat_lt 0 (missing_of t) then need.Read field.Residual t.params.residuals
-    else need.End

@@ -91,11 +91,11 @@ impl Model for Progress {
 }
 
 impl Progress {
-    ghost use Rattle.wg_grammar.specs.Tally.{Follows, need_of, extra_of, missing_of};
+    ghost use Rattle.wg_grammar.specs.Tally.{Follows, extra_of, missing_of};
     ghost use Rattle.wg_grammar.specs.Judging.{Gives, Judges};
     ghost use Rattle.wg_grammar.specs.Context.{Context};
     ghost use Rattle.wg_grammar.specs.SoFar.{SoFar, nothing_yet, after};
-    ghost use Rattle.wg_grammar.specs.Next.{next};
+    ghost use Rattle.wg_grammar.specs.Next.{next, need_of};
     ghost use Rattle.wg_grammar.specs.Refusal.{refusal};
     ghost use Rattle.wg_grammar.specs.declared.fault.Field.{Field};
     ghost use Rattle.wg_grammar.specs.declared.need.Need.{Need};
@@ -143,7 +143,6 @@ impl Progress {
         self.next_field()
     }
 
-    #[tactic(auto, unfolding(crate::specs::Tally::need_of))]
     fn next_field(&self) -> Need
         ensures value { result ≡ need_of self.now }
         ensures early { ForNone self.now.reference (self.now.blocks ≡ 0) }

@@ -16,7 +16,7 @@ use Rattle.wg_grammar.specs.Refusal.{refusal}
 use Rattle.wg_grammar.specs.Members.{list_of, is_covered}
 use Rattle.wg_grammar.specs.Record.{Whole, Stands, Fields, ReadsRecord}
 use Rattle.wg_grammar.specs.Tally.{tally}
-use Rattle.wg_grammar.proofs.Tallies.{due, next_by_numbers}
+use Rattle.wg_grammar.proofs.Tallies.{due, need_follows}
 use Rattle.wg_graph.specs.Numbers.{is_in, numbers_where}
 use Rattle.wg_graph.specs.Copied.{copied_members}
 use Rattle.wg_decoder.specs.Proper.{unlimited, behind_of, context_on, IsRecord}
@@ -41,7 +41,7 @@ to_state s u w e (inl h) = inl h
 to_state s u w e (inr h) = inr (h ∙ ap (λ (x : SoFar). x.reference) (sym e))
 
 reference_due : (p : Parameters) (c : Context) (s : SoFar) (f : Field) (code : _) → next p c s ≡ need.Read f code → f ≡ field.Reference → s.reference ≡ None
-reference_due p c s f code is e = due (tally p c s) field.Reference code (sym (next_by_numbers p c s) ∙ is ∙ ap (λ (g : Field). need.Read g code) e)
+reference_due p c s f code is e = due (tally p c s) field.Reference code (need_follows (tally p c s) p c s refl ∙ is ∙ ap (λ (g : Field). need.Read g code) e)
 
 stands_keep : (m : Need) (p : Parameters) (c : Context) (bits : List Bool) (s : SoFar) (at v mid : ℕ) (u : SoFar) → next p c s ≡ m → Stands m p c bits s at v mid u → (s.reference ≡ None) ⊎ (s.reference ≡ u.reference)
 stands_keep (need.Read f code) p c bits s at v mid u is x = to_state s (after p c s f v) u x.3 (after_keeps p c s f v (reference_due p c s f code is))

@@ -1,4 +1,4 @@
-ghost use Rattle.std.specs.Prelude.{◌≡◌, ◌<◌, Some, None};
+ghost use Rattle.std.specs.Prelude.{◌≡◌, ◌<◌, Some};
 ghost use Rattle.std.specs.Option.{ForSome};
 
 use super::{Progress, Referenced};
@@ -6,7 +6,8 @@ use crate::{Field, Kind};
 
 impl Progress {
     ghost use Rattle.wg_codes.specs.Fold.{unfolded_from};
-    ghost use Rattle.wg_grammar.specs.Steps.{within, left_of, residual_of, refusal_of};
+    ghost use Rattle.wg_grammar.specs.Refusal.{left_of, residual_of, refusal_of};
+    ghost use Rattle.wg_grammar.specs.Steps.{within, given_depth};
     ghost use Rattle.wg_grammar.specs.declared.fault.Field.{Field};
 
     // The number, if it is a page.
@@ -64,7 +65,6 @@ impl Progress {
     }
 
     // The first reason to refuse a value. Codes have values of up to 64 bits, so each is compared before it is added.
-    #[tactic(auto, unfolding(crate::specs::Steps::refusal_of))]
     pub(super) fn refusal(
         &self,
         field: Field,
@@ -72,7 +72,7 @@ impl Progress {
         referenced: Option<Referenced>,
     ) -> Option<Kind>
         requires { ForSome referenced (λ r. r.depth < self.now.page) }
-        ensures { result ≡ refusal_of self.now referenced field value }
+        ensures { result ≡ refusal_of self.now (given_depth referenced) field value }
     {
         match field {
             Field::Outdegree => self.refuse_outdegree(value),
@@ -88,9 +88,8 @@ impl Progress {
         }
     }
 
-    #[tactic(auto, unfolding(crate::specs::Steps::refusal_of))]
     fn refuse_outdegree(&self, value: u64) -> Option<Kind>
-        ensures { result ≡ refusal_of self.now None Field.Outdegree value }
+        ensures { result ≡ refusal_of self.now 0 Field.Outdegree value }
     {
         if value > self.params.nodes() {
             return Some(Kind::Range);
@@ -99,10 +98,9 @@ impl Progress {
         (self.arcs_before + value > arcs).then_some(Kind::Total)
     }
 
-    #[tactic(auto, unfolding(crate::specs::Steps::refusal_of))]
     fn refuse_reference(&self, value: u64, referenced: Option<Referenced>) -> Option<Kind>
         requires { ForSome referenced (λ r. r.depth < self.now.page) }
-        ensures { result ≡ refusal_of self.now referenced Field.Reference value }
+        ensures { result ≡ refusal_of self.now (given_depth referenced) Field.Reference value }
     {
         if value > self.params.window().min(self.page) {
             return Some(Kind::Range);
@@ -117,9 +115,8 @@ impl Progress {
         }
     }
 
-    #[tactic(auto, unfolding(crate::specs::Steps::refusal_of))]
     fn refuse_block(&self, value: u64) -> Option<Kind>
-        ensures { result ≡ refusal_of self.now None Field.Block value }
+        ensures { result ≡ refusal_of self.now 0 Field.Block value }
     {
         let left = self.source - self.blocks_sum;
         let passes = if self.blocks == 0 {
@@ -130,17 +127,15 @@ impl Progress {
         passes.then_some(Kind::Range)
     }
 
-    #[tactic(auto, unfolding(crate::specs::Steps::refusal_of))]
     fn refuse_interval_count(&self, value: u64) -> Option<Kind>
-        ensures { result ≡ refusal_of self.now None Field.IntervalCount value }
+        ensures { result ≡ refusal_of self.now 0 Field.IntervalCount value }
     {
         let numbers = value as u128 * self.params.interval() as u128;
         (numbers > self.extra() as u128).then_some(Kind::Range)
     }
 
-    #[tactic(auto, unfolding(crate::specs::Steps::refusal_of))]
     fn refuse_length(&self, value: u64) -> Option<Kind>
-        ensures { result ≡ refusal_of self.now None Field.Length value }
+        ensures { result ≡ refusal_of self.now 0 Field.Length value }
     {
         let nodes = self.params.nodes();
         if value > nodes {

@@ -6,13 +6,15 @@ use crate::Field;
 
 impl Progress {
     ghost use Rattle.wg_grammar.specs.SoFar.{value_or_0};
-    ghost use Rattle.wg_grammar.specs.Steps.{refusal_of, after_of, block_of, copied_after, Due};
+    ghost use Rattle.wg_graph.specs.Copied.{block_at};
+    ghost use Rattle.wg_grammar.specs.Refusal.{refusal_of};
+    ghost use Rattle.wg_grammar.specs.Steps.{given_depth, after_of, copied_after, Due};
 
     // Takes a value that is not refused.
-    #[tactic(auto, unfolding(crate::specs::Steps::refusal_of, crate::specs::Steps::after_of))]
+    #[tactic(auto, unfolding(crate::specs::Steps::after_of))]
     pub(super) fn take(&mut self, field: Field, value: u64, referenced: Option<Referenced>)
         requires due { Due self.old field }
-        requires allowed { refusal_of self.old referenced field value ≡ None }
+        requires allowed { refusal_of self.old (given_depth referenced) field value ≡ None }
         requires known { ForSome referenced (λ r. r.length ≤ self.old.params.nodes) }
         ensures params { self.new.params ≡ self.old.params }
         ensures page { self.new.page ≡ self.old.page }
@@ -53,11 +55,11 @@ impl Progress {
     // Takes a block. What lies past it was counted as copied or skipped, and is the other now.
     fn take_block(&mut self, value: u64)
         requires due { self.old.blocks < value_or_0 self.old.block_count }
-        requires fits { self.old.blocks_sum + block_of self.old value ≤ self.old.source }
+        requires fits { self.old.blocks_sum + block_at self.old.blocks value ≤ self.old.source }
         ensures { self.new ≡ record self.old {
           blocks = self.old.blocks + 1;
-          blocks_sum = self.old.blocks_sum + block_of self.old value;
-          copied = copied_after self.old (self.old.blocks_sum + block_of self.old value);
+          blocks_sum = self.old.blocks_sum + block_at self.old.blocks value;
+          copied = copied_after self.old (self.old.blocks_sum + block_at self.old.blocks value);
         } }
     {
         let block = if self.blocks == 0 { value } else { value + 1 };
