@@ -1,10 +1,9 @@
--- Records on their own, when no page before is known but the one that they refer to.
-use Rattle.std.specs.Prelude.{◌≡◌, ◌⊎◌, ℕ, Bool, List, length, replicate, Some}
+-- The head of a record, and records on their own, when no page before is known but the one that they refer to.
+use Rattle.std.specs.Prelude.{◌≡◌, ◌⊎◌, ℕ, Bool, List, replicate, Some}
 use Rattle.wg_params.specs.Parameters.{Parameters}
 use Rattle.wg_grammar.specs.declared.fault.Fault.{Fault}
 use Rattle.wg_grammar.specs.declared.fault.Field.TheVariants as field
 use Rattle.wg_grammar.specs.declared.need.Need.TheVariants as need
-use Rattle.wg_grammar.specs.declared.progress.Referenced.{Referenced}
 use Rattle.wg_grammar.specs.Context.{Known, Context}
 use Rattle.wg_grammar.specs.SoFar.{SoFar, nothing_yet, after}
 use Rattle.wg_grammar.specs.Next.{next}
@@ -22,10 +21,6 @@ page_on p page arcs_before k = context_at page arcs_before (replicate p.window k
 -- No arcs come before the page, and each reference names this one.
 abbrev pub page_over : Parameters → ℕ → Known → Context
 page_over p page k = page_on p page 0 k
-
--- what is told of a page that a reference names
-abbrev pub told : Known → Referenced
-told k = record { length = length k.list; depth = k.depth }
 
 -- after the outdegree d comes the reference
 abbrev pub RefersNext : Parameters → Context → ℕ → Type 0

@@ -5,10 +5,11 @@ ghost use Rattle.wg_decoder.specs.Answer.{context_at, OnFault, OnRefusal, WantsN
 ghost use Rattle.wg_decoder.specs.Apart.{HeadStands, HeadFails};
 ghost use Rattle.wg_decoder.specs.Chains.{endless};
 
-use crate::apart::read_head_over;
+use crate::behind::Alone;
+use crate::heads::read_head;
 use crate::{Head, Unread};
 use wg_bits::Cursor;
-use wg_grammar::{Fault, Referenced, Source};
+use wg_grammar::{Fault, Source};
 use wg_params::{Layout, Params};
 
 // The same parameters without a limit on chains.
@@ -48,11 +49,13 @@ pub fn head_from<S: Source>(
         (S.offset source.old) e) }
     ensures there { IfOk result (λ h. h.reference ≤ min params.now.window page) }
 {
-    let nothing = Referenced {
-        length: 0,
+    let params = endless(params);
+    let nothing = Alone {
+        window: params.window(),
+        list: &[],
         depth: 0,
     };
-    read_head_over(&endless(params), page, arcs_before, nothing, source)
+    read_head(&params, page, arcs_before, &nothing, source)
 }
 
 /// The same of the record at a cursor, which refuses no word.

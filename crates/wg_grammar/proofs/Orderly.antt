@@ -111,7 +111,8 @@ from_late p c s early checked fits allowed empty = record {
 pub orderly_first : (p : Parameters) (c : Context) → Orderly p c nothing_yet
 orderly_first p c = from_nothing p c nothing_yet (record { unchecked = refl; lengths = refl; residuals = refl }) (λ e. refl)
 
-next_tested : (p : Parameters) (c : Context) (s : SoFar) → tests (tally p c s) (field_of (next p c s))
+-- the tests that chose what is next
+pub next_tested : (p : Parameters) (c : Context) (s : SoFar) → tests (tally p c s) (field_of (next p c s))
 unfolding next tests
 next_tested p c s = tested p _ _ _ _ _ _ _ _ _ _
 

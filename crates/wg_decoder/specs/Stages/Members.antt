@@ -1,5 +1,5 @@
 -- The head of a record, and the members that follow it.
-use Rattle.std.specs.Prelude.{◌≡◌, ℕ, ◌<◌, Bool, List, Result, Err}
+use Rattle.std.specs.Prelude.{◌≡◌, ℕ, Bool, List, Result, Err}
 use Rattle.wg_params.specs.Parameters.{Parameters}
 use Rattle.wg_grammar.specs.declared.fault.Fault.{Fault}
 use Rattle.wg_grammar.specs.declared.need.Need.TheVariants as need
@@ -9,14 +9,9 @@ use Rattle.wg_grammar.specs.Next.{next}
 use Rattle.wg_grammar.specs.Members.{list_of}
 use Rattle.wg_grammar.specs.Record.{Whole, ReadsRecord}
 use Rattle.wg_decoder.specs.Answer.{context_at}
-use Rattle.wg_decoder.specs.Apart.{of_outdegree}
+use Rattle.wg_decoder.specs.Apart.{HeadStands}
 use Rattle.wg_decoder.specs.Stages.Head.{of_head}
 use Rattle.wg_decoder.specs.Stages.Leading.{LeadsTo}
-
--- the head stands from the bit start to the bit end: the outdegree d, and if it is not 0 the reference r
-pub record IsHead (p : Parameters) (c : Context) (bits : List Bool) (start d r end : ℕ) : Type 0 where
-  pub none : d ≡ 0 → LeadsTo p c bits nothing_yet start (of_outdegree d) end
-  pub some : 0 < d → LeadsTo p c bits nothing_yet start (of_head p d r) end
 
 -- a record of which all is read, with these fields in its head and this list
 pub record AllRead (p : Parameters) (c : Context) (bits : List Bool) (start d r : ℕ) (list : List ℕ) (end : ℕ)
@@ -48,5 +43,5 @@ AreNoMembers p page d r named bits at e =
 abbrev pub IsRest : Parameters → ℕ → ℕ → ℕ → ℕ → List ℕ → ℕ → List Bool → ℕ → Result Whole Fault → Type 0
 IsRest p page start d r named depth bits at w =
     (arcs_before : ℕ) (behind : List Known) → referenced behind r ≡ named → depth_of behind r ≡ depth
-    → IsHead p (context_at page arcs_before behind) bits start d r at
+    → HeadStands p (context_at page arcs_before behind) bits start d r at
     → ReadsRecord p (context_at page arcs_before behind) bits start w

@@ -4,6 +4,7 @@ use Rattle.wg_decoder.specs.Answer.{context_at}
 use Rattle.wg_decoder.proofs.Faults.{fault_weaker}
 use Rattle.wg_decoder.proofs.Orders.{above_0, from_0, up_to_itself}
 use Rattle.wg_decoder.proofs.SpareLemmas.{none_lent}
+use Rattle.wg_decoder.proofs.HeadLemmas.{to_empty, to_head}
 use Rattle.wg_decoder.proofs.WholeLemmas.{empty_reads, whole_reads, whole_twice}
 use Rattle.wg_decoder.proofs.reading.decode_members.Goals as goal
 
@@ -15,7 +16,7 @@ returns-then-head-eq0 g c =
       later = g.met.S.Source.stays _;
       refused = tt;
       reads = λ bits r arcs behind named deep stands.
-          empty_reads c.args.params.now (context_at c.args.page arcs behind) bits c.args.start c.args.head.outdegree (g.S.Source.offset c.args.source.now) none (stands.none none);
+          empty_reads c.args.params.now (context_at c.args.page arcs behind) bits c.args.start c.args.head.outdegree (g.S.Source.offset c.args.source.now) none (to_empty c.args.params.now (context_at c.args.page arcs behind) bits c.args.start c.args.head.outdegree c.args.head.reference (g.S.Source.offset c.args.source.now) none stands);
       fault = λ bits r. tt;
       depth = from_0 _;
       ascends = tt;
@@ -36,7 +37,7 @@ returns-in_err-members g c =
       reads = λ bits r. tt;
       fault = λ bits r.
           fault_weaker c.in_err-members.field-0.0 _ _
-          (λ e not_so arcs behind named deep stands. not_so arcs c.args.start behind named (stands.some some))
+          (λ e not_so arcs behind named deep stands. not_so arcs c.args.start behind named (to_head c.args.params.now (context_at c.args.page arcs behind) bits c.args.start c.args.head.outdegree c.args.head.reference (g.S.Source.offset c.args.source.now) some stands))
           (n.fault bits r);
       depth = tt;
       ascends = tt;
@@ -57,7 +58,7 @@ returns-then-as_slice-head g c =
       reads = λ bits r. tt;
       fault = λ bits r arcs behind named deep stands.
           whole_twice c.args.params.now (context_at c.args.page arcs behind) bits c.args.start h.outdegree h.reference c.args.start c.members.new.list
-          (g.S.Source.offset c.members.new.source) (n.reads bits r arcs c.args.start behind named (stands.some some)) (omega (arith, ap length c.as_slice.ensures)) refl;
+          (g.S.Source.offset c.members.new.source) (n.reads bits r arcs c.args.start behind named (to_head c.args.params.now (context_at c.args.page arcs behind) bits c.args.start c.args.head.outdegree c.args.head.reference (g.S.Source.offset c.args.source.now) some stands)) (omega (arith, ap length c.as_slice.ensures)) refl;
       depth = tt;
       ascends = tt;
       below = tt;
@@ -76,7 +77,7 @@ returns g c =
       refused = tt;
       reads = λ bits r arcs behind named deep stands.
           whole_reads c.args.params.now (context_at c.args.page arcs behind) bits c.args.start h.outdegree h.reference c.args.depth c.members.new.list
-          (g.S.Source.offset c.members.new.source) (n.reads bits r arcs c.args.start behind named (stands.some some)) (omega (arith, ap length c.as_slice.ensures)) (sym deep);
+          (g.S.Source.offset c.members.new.source) (n.reads bits r arcs c.args.start behind named (to_head c.args.params.now (context_at c.args.page arcs behind) bits c.args.start c.args.head.outdegree c.args.head.reference (g.S.Source.offset c.args.source.now) some stands)) (omega (arith, ap length c.as_slice.ensures)) (sym deep);
       fault = λ bits r. tt;
       depth = up_to_itself _;
       ascends = n.ascends;
