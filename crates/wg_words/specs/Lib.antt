@@ -1,7 +1,6 @@
 pub mod Asked
 pub mod Commands
 pub mod Files
-pub mod Forms
 pub mod Jobs
 pub mod Layouts
 pub mod Pairs

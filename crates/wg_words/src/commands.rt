@@ -2,10 +2,9 @@
 ghost use Rattle.std.specs.Prelude.{◌≡◌, IfOk, false};
 ghost use Rattle.clap.specs.Words.{app_of, rule_of};
 ghost use Rattle.clap.specs.declared.builder.command.Command.TheViews.{out-Command};
-ghost use Rattle.wg_words.specs.Commands.{IsApp, program_app, command_app};
-ghost use Rattle.wg_words.specs.Forms.{rule_in, with_rules, app_in};
+ghost use Rattle.wg_words.specs.Commands.{IsApp, program_app, command_app, rule_in, with_rules, app_in};
 
-use crate::forms::{Argument, FORMS, Form};
+use crate::forms::{Argument, Arity, FORMS, Form};
 use clap::{Arg, Command};
 use std::alloc::{AllocError, Global};
 
@@ -17,18 +16,19 @@ fn made_argument<'a>(alloc: Global, argument: &Argument) -> Arg<'a>
     ensures rule { rule_of result ≡ rule_in argument.now }
     ensures local { result.global ≡ false }
 {
-    match *argument {
-        Argument::Word(name) => Arg::new(alloc, name).required(true),
-        Argument::Several(name) => Arg::new(alloc, name).required(true).num_args(1..),
-        Argument::Required(name) => Arg::new(alloc, name).long(name).required(true),
-        Argument::Optional(name) => Arg::new(alloc, name).long(name),
+    let (name, arity) = *argument;
+    match arity {
+        Arity::Word => Arg::new(alloc, name).required(true),
+        Arity::Several => Arg::new(alloc, name).required(true).num_args(1..),
+        Arity::Required => Arg::new(alloc, name).long(name).required(true),
+        Arity::Optional => Arg::new(alloc, name).long(name),
     }
 }
 
 // The command with these arguments more.
 fn with_arguments<'a>(alloc: Global, command: Command<'a>, arguments: &[Argument]) -> Made<'a>
     requires local { (out-Command command).has_globals ≡ false }
-    ensures { IfOk result (IsApp (with_rules (app_of command.entry) arguments.now)) }
+    ensures { IfOk result (IsApp (with_rules rule_in (app_of command.entry) arguments.now)) }
 {
     let mut command = command;
     for argument in arguments {
@@ -41,8 +41,9 @@ fn with_arguments<'a>(alloc: Global, command: Command<'a>, arguments: &[Argument
 fn made_command<'a>(alloc: Global, form: &Form) -> Made<'a>
     ensures { IfOk result (IsApp (app_in form.now)) }
 {
-    let command = with_arguments(alloc, Command::new(alloc, form.name), form.words)?;
-    with_arguments(alloc, command, form.options)
+    let (name, words, options) = *form;
+    let command = with_arguments(alloc, Command::new(alloc, name), words)?;
+    with_arguments(alloc, command, options)
 }
 
 fn program<'a>(alloc: Global) -> Command<'a>
