@@ -5,21 +5,21 @@ _webgraph() {
     local -i i=2 place=0
     COMPREPLY=()
     if ((COMP_CWORD == 1)); then
-        mapfile -t COMPREPLY < <(compgen -W 'check arcs ascii offsets show spot rank verify bulk build import recode transpose union quotient' -- "$word")
+        mapfile -t COMPREPLY < <(compgen -W 'check arcs offsets ascii show spot rank verify build import quotient recode union transpose bulk' -- "$word")
         return
     fi
     case ${COMP_WORDS[1]} in
-        check | arcs | ascii | offsets) kinds=(archive) options='' ;;
+        check | arcs | offsets | ascii) kinds=(archive) options='' ;;
         show) kinds=(archive numbers) options='' ;;
         spot) kinds=(archive number) options='' ;;
         rank) kinds=(archive) options='--rounds --damping --top --weights --certificate' ;;
         verify) kinds=(archive file) options='--weights' ;;
-        bulk) kinds=(number number) options='' ;;
         build) kinds=(file archive) options='--nodes --window --chain --interval --zeta --outdegrees --references --blockcounts --blocks --residuals --offsets' ;;
         import) kinds=(file archive) options='--window --chain --interval --zeta --outdegrees --references --blockcounts --blocks --residuals --offsets' ;;
+        quotient) kinds=(archive file archive) options='--classes --window --chain --interval --zeta --outdegrees --references --blockcounts --blocks --residuals --offsets' ;;
         recode | transpose) kinds=(archive archive) options='--window --chain --interval --zeta --outdegrees --references --blockcounts --blocks --residuals --offsets' ;;
         union) kinds=(archive archive archive) options='--window --chain --interval --zeta --outdegrees --references --blockcounts --blocks --residuals --offsets' ;;
-        quotient) kinds=(archive file archive) options='--classes --window --chain --interval --zeta --outdegrees --references --blockcounts --blocks --residuals --offsets' ;;
+        bulk) kinds=(number number) options='' ;;
         *) return ;;
     esac
     # Which word of the command this is, or the value of which option. What is written --zeta=3 comes as three words.

@@ -26,35 +26,35 @@ _webgraph() {
             commands=(
                 'check:validate an archive'
                 'arcs:print the arcs'
-                'ascii:print the graph as a plain text'
                 'offsets:print where the records begin'
+                'ascii:print the graph as a plain text'
                 'show:print the successors of pages'
                 'spot:print the successors of a page, with no check of the others'
                 'rank:print the first pages by PageRank'
                 'verify:verify a certificate of ranks'
-                'bulk:build, check and rank a graph in memory'
                 'build:write the graph of an arc list'
                 'import:write the graph of a plain text'
-                'recode:write a graph in other parameters'
-                'transpose:write a graph with each arc the other way round'
-                'union:write the union of two graphs'
                 'quotient:write a graph of classes of pages'
+                'recode:write a graph in other parameters'
+                'union:write the union of two graphs'
+                'transpose:write a graph with each arc the other way round'
+                'bulk:build, check and rank a graph in memory'
             )
             _describe command commands
             ;;
         words)
             case $line[1] in
-                check|arcs|ascii|offsets) _arguments -S ':archive:_webgraph_archives' ;;
+                check|arcs|offsets|ascii) _arguments -S ':archive:_webgraph_archives' ;;
                 show) _arguments -S ':archive:_webgraph_archives' '*:numbers: ' ;;
                 spot) _arguments -S ':archive:_webgraph_archives' ':number: ' ;;
                 rank) _arguments -S '--rounds=[how many rounds]:number: ' '--damping=[the damping in thousandths]:number: ' '--top=[how many lines]:number: ' '--weights=[the weights of the pages]:file:_files' '--certificate=[where the certificate goes]:file:_files' ':archive:_webgraph_archives' ;;
                 verify) _arguments -S '--weights=[the weights of the pages]:file:_files' ':archive:_webgraph_archives' ':file:_files' ;;
-                bulk) _arguments -S ':number: ' ':number: ' ;;
                 build) _arguments -S '--nodes=[how many pages]:number: ' $layout ':file:_files' ':archive:_webgraph_archives' ;;
                 import) _arguments -S $layout ':file:_files' ':archive:_webgraph_archives' ;;
+                quotient) _arguments -S '--classes=[how many classes]:number: ' $layout ':archive:_webgraph_archives' ':file:_files' ':archive:_webgraph_archives' ;;
                 recode|transpose) _arguments -S $layout ':archive:_webgraph_archives' ':archive:_webgraph_archives' ;;
                 union) _arguments -S $layout ':archive:_webgraph_archives' ':archive:_webgraph_archives' ':archive:_webgraph_archives' ;;
-                quotient) _arguments -S '--classes=[how many classes]:number: ' $layout ':archive:_webgraph_archives' ':file:_files' ':archive:_webgraph_archives' ;;
+                bulk) _arguments -S ':number: ' ':number: ' ;;
             esac
             ;;
     esac
