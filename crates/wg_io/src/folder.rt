@@ -118,7 +118,7 @@ fn read_at<R: Files<File = File> + AllocGlobal>(
     let file = File::open(rt, name)?;
     match file.read_at(buf, at) {
         Ok(count) => {
-            open.keep(rt.alloc(), name, file);
+            open.hold(rt.alloc(), name, file);
             Ok(count)
         }
         Err(error) if error.kind() == ErrorKind::NotSeekable => {
@@ -147,6 +147,6 @@ fn append_to<R: Files<File = File> + AllocGlobal>(
     }
     let mut file = OpenOptions::new().append(true).create(true).open(rt, name)?;
     let count = write_some(&mut file, piece)?;
-    open.keep(rt.alloc(), name, file);
+    open.hold(rt.alloc(), name, file);
     Ok(count)
 }
