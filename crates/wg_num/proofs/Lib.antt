@@ -1,6 +1,7 @@
 pub mod Cuts
 pub mod Leading
 pub mod Numbers
+pub mod Pairs
 pub mod Parted
 pub mod Places
 pub mod Plain

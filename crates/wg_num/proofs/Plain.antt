@@ -1,5 +1,5 @@
 -- Lines of bytes that are no control characters: digits, letters and what stands between them.
-use Rattle.std.proofs.Common.{ℕ, zero, suc, ◌≡◌, ◌+◌, ◌-◌, ◌<◌, ◌≤◌, ◌^◌, ◌/◌, ◌%◌, leb, true, List, [], ◌∷◌, ◌++◌, subst, arith, leb-true}
+use Rattle.std.proofs.Common.{ℕ, zero, suc, ◌≡◌, ◌+◌, ◌<◌, ◌≤◌, ◌^◌, ◌/◌, ◌%◌, leb, true, List, [], ◌∷◌, ◌++◌, subst, arith, leb-true}
 use Rattle.std.specs.Fmt.{decimal}
 use Rattle.std.specs.List.{All, list_all}
 use Rattle.std.proofs.lemmas.Bool.{cases_lt, ne_eqb, and_parts}

@@ -21,6 +21,7 @@
 #![tactic(auto)]
 
 mod decimal;
+mod digits;
 mod lines;
 mod units;
 mod words;
