@@ -33,6 +33,14 @@
 //!
 //! Writing takes no memory, and time in proportion to the pages, and to the digits of the arcs. Reading goes over the
 //! text once; it holds the graph or the numbers, 8 bytes each, and takes memory as they come.
+//!
+//! Choices:
+//!
+//! - Weights are whole numbers, below 2^32: every product of a round fits 128 bits, and reading a text rounds nothing.
+//!   All weights 0 is a fault, since teleport would lead nowhere; a graph without pages has no weights and is valid.
+//!   *Revisit if* weights come as fractions that no common factor makes whole.
+//! - A map of classes is the same text with another limit. The number of classes is given beside it, as that of pages
+//!   beside an arc list, since any class may be empty, the last one too. *Revisit if* most users have names of classes.
 #![tactic(auto)]
 
 mod arc_lines;

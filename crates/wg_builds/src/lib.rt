@@ -16,6 +16,15 @@
 //! assert!(rt; done.is_ok());
 //! Ok(())
 //! ```
+//!
+//! Choices:
+//!
+//! - `bulk` ranks the archive that it built, not the graph that it generated. So it runs the whole program, over a
+//!   depot in memory: to build, validate, read and rank. Each graph within the limits has an accepted archive, so
+//!   `bulk` has no status for a fault in it. *Revisit if* it takes so many pages that a graph of them is too much to
+//!   hold.
+//! - Its rounds go along the lists of the graph in memory: along runs they took as long or a little less, for more
+//!   memory. *Revisit if* it does many more rounds.
 #![tactic(auto)]
 
 pub mod build;

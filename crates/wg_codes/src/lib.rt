@@ -39,6 +39,9 @@
 //! - No table has the short words of zeta. It could have those of 11 bits at most, as 9 of 100 residuals of the
 //!   generated archives were (2026-11-27), so that looking up would cost more than it saves. *Revisit if* zeta takes
 //!   a tenth of validating real crawls.
+//! - A word that is not known at a glance is read by a function that is never inlined, takes a copy of the cursor and
+//!   answers how far to move. If it borrowed the cursor, that would lie in memory wherever words are read, and
+//!   validating took a thirteenth longer (2026-11-28). *Revisit if* the compiler keeps a borrowed number in a register.
 #![tactic(auto)]
 
 mod any;

@@ -30,6 +30,10 @@
 //! - All lines that end in a piece are lent at once, so that a caller reads lines in their plain form by one pass,
 //!   with no call for each and no search for its end. *Revisit if* files are read whose lines are mostly longer than
 //!   a piece.
+//! - `print_list` of `wg_arcs` and `wg_ascii` print through the caller's buffer, so that the sink is called once for
+//!   some hundred lines and not for each page. A sink that gathers what it is given would copy each line once more. All
+//!   this is a crate of its own, since most crates on `wg_outside` print nothing. *Revisit if* a buffer can be lent to
+//!   whoever writes a line.
 #![tactic(auto)]
 
 mod lines;

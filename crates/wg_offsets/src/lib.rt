@@ -34,6 +34,11 @@
 //!
 //! - The definition `pages_that_differ` is the ascending list of all pages whose two lengths differ, and the fault
 //!   names its first, so that no definition needs a loop. *Revisit if* all of these pages are to be named.
+//! - A sample is an offset and the bit of the file after its word: 16 MB for 10^9 pages. The head of a record, and then
+//!   the whole record, each take up to 1024 words again; one call gives the offset of a page and that of the next, from
+//!   one reading. If the file has changed, a word that is refused now is a fault of the offsets. The price is that
+//!   `BASE.offsets` is read twice, so it can't be a pipe, unless it is at most one piece long. *Revisit if* chains get
+//!   so long that these words take longer than the pass over the file.
 #![tactic(auto)]
 
 mod comparing;

@@ -58,6 +58,10 @@
 //! - What is surely above a page comes before it, and so is among the first pages, if the lower bound of that page is
 //!   not above its own upper bound. Nothing here says so of all bounds, though those of a graph are such. So
 //!   [`FirstPages::best`] looks, and counts among all pages if it is not so.
+//! - [`Ranking::new`] answers more than 2^36 - 1 pages as if out of memory: any caller may ask for so many, and no
+//!   fault is defined, since no archive has them. *Revisit if* one has.
+//! - The clauses of `select_nth_unstable_by` tell which parts it lends, and not what it leaves afterwards, so the first
+//!   pages are copied while they are lent. *Revisit if* those clauses tell it.
 #![tactic(auto)]
 
 mod arranging;

@@ -32,6 +32,14 @@
 //!   type, `later`, which leads on from write to write. *Revisit if* a contract of many calls can be had without it.
 //! - What reads and writes stands on the traits alone, so the depots and sinks are a crate of their own, `wg_io`:
 //!   nearly all crates are proved beside it. *Revisit if* it takes no longer to prove than this one.
+//! - A count stands still at 2^64 - 1, and an error comes only if its count rose or stands there. So calls stay total,
+//!   and no run reaches that value. A depot may count by name or for all names together; the clauses of `run` name the
+//!   file, and are weaker if the depot counts more coarsely. *Revisit if* a caller has to know by contract which file
+//!   of the system failed, or if numbers without a limit cost nothing at run time.
+//! - Calls that write are not counted, so no clause says that nine commands never write to the system's folder. A token
+//!   without bytes, as `wg_random::Steps`, could count them at no cost, but only one sum for all names; it would be a
+//!   type parameter of `FolderDepot` and `main`, and a ghost member of every depot. *Revisit if* a token can count by
+//!   name, or if `FolderDepot` gets a type parameter anyway.
 #![tactic(auto)]
 
 mod appending;

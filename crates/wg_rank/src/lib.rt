@@ -85,6 +85,20 @@
 //! graphs, and longer lists, are taken in parts of so many pages. No other sum passes 128 bits: what flows to a page is
 //! at most one whole for each page, so below 2^36 * 10^24, and the damping multiplies it by less than 2^10; a weight is
 //! below 2^32, and teleport's part of 1 is at most 1000 * 10^24 before it is divided.
+//!
+//! Choices:
+//!
+//! - [`judge`] repeats only the pass along the lists: a round adds two sums for each arc, and `judge` one. *Revisit if*
+//!   the two can be one without a cost for each arc.
+//! - An inverse is in units of 2^-63, rounded down and 1 more. It gives the exact quotient of a number if number times
+//!   outdegree is below 2^63, so a bound is cut at 40 bits, for outdegrees up to 2048. A quotient is rounded up by
+//!   adding the divisor less 1 first. *Revisit if* a division of 64 bits takes no longer than two products.
+//! - Divisions by the sum of the weights stand in functions that are called. Inline, the compiler made one division in
+//!   the loop over the pages for both cases, with weights and without. *Revisit if* the two are one loop each.
+//! - `round` and [`judge`] take `L: Lists`: clauses could not name the graph of an `&mut impl Lists`. *Revisit if* they
+//!   can.
+//! - [`read_certificate`] answers more than 2^36 - 1 pages as if out of memory, since no archive has them. *Revisit if*
+//!   one has.
 #![tactic(auto)]
 
 mod advancing;

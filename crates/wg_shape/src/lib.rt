@@ -41,6 +41,17 @@
 //!
 //! Both take time in proportion to the pages, classes and arcs, but that the arcs of each class are sorted. What each
 //! holds is stated at the functions.
+//!
+//! Choices:
+//!
+//! - [`Coming`] is a trait of this crate, and readers of archives implement it. So unions read no bits, and
+//!   `wg_outcomes` need not wait for those readers. It asks for `Drop`, since a type can own two of them only if these
+//!   can be dropped. *Revisit if* this crate reads archives.
+//! - An arc inside a class stays, from the class to itself. So the quotient by classes of one page each is the graph
+//!   again. Whoever wants none of these arcs drops them from the list that `arcs` prints. *Revisit if* most users do.
+//! - The list of a class is sorted when it is handed over, in 8 bytes for each arc of that class. To place arcs in
+//!   order would take a second pass and as much memory again. *Revisit if* sorting a class takes longer than the pass
+//!   that places.
 #![tactic(auto)]
 
 mod adding;

@@ -41,6 +41,15 @@
 //!
 //! Of a source that cannot tell its bits it is still known that each list ascends, that its numbers are pages, and that
 //! all lists together have no more numbers than arcs are promised.
+//!
+//! Choices:
+//!
+//! - A [`Reader`] that met an error is closed, since a later call would begin inside a record: it names the first error
+//!   again and reads nothing. *Revisit if* a reader has to go on behind a fault, to count faults.
+//! - The rows of a [`Sweep`] are taken at once, each with room for the greatest outdegree, so that no later step runs
+//!   out of memory. An archive with a window of thousands and a page of a million successors asks for rows that it
+//!   never fills. To bound them by the greatest sum of lists over a window would take a pass more, or a number more in
+//!   the one that validates. *Revisit if* such archives come.
 #![tactic(auto)]
 
 mod error;

@@ -19,6 +19,17 @@
 //! side by side; `transpose` and `quotient` hold those of one, and go through its lists once for each range of pages or
 //! of classes. Before that `transpose` goes through them once, to validate them and to count the arcs; `quotient`
 //! twice, since its map is read once the graph is validated.
+//!
+//! Choices:
+//!
+//! - `union` sweeps over both archives side by side. A sweep needs no offsets and no memory for a page, and knows no
+//!   chain that is too deep. The bits of both are held, since what is joined is what was validated; reading the files
+//!   again would validate each record twice. Only the number of arcs can pass its limit, before OUT is touched.
+//!   *Revisit if* two archives do not fit into memory beside their union, or if pages have labels, on which they can
+//!   disagree.
+//! - No clause says how many passes are made. `encode_transposed` and `encode_quotient` cut the graph into ranges by
+//!   its number of arcs, and any number gives the same archive. For a clause `Lists` would have to count its
+//!   beginnings. *Revisit if* passes have to be stated by contract, as the records that `show` opens are.
 #![tactic(auto)]
 
 mod counting;
