@@ -1,10 +1,10 @@
-//! Graphs as texts, a line for each arc, its two pages in decimal digits, parted by a space; and lists of numbers as
-//! texts.
+//! Graphs as texts, a line for each arc; and lists of numbers as texts.
 //!
-//! [`write_list`] puts the lines of a page to a sink, and [`write`] those of each page of a graph in turn: the text of
-//! the graph, arc by arc, ascending. Both call the sink at least once for each page that has arcs. What they are made
-//! of is [`print_list`], which prints the lines of a page through a buffer of the caller: whoever has many short lists
-//! keeps one buffer for all of them, and so the sink is called once for some hundred lines.
+//! [`write_list`] puts the lines of a page to a sink, each its two pages in decimal digits, parted by a space, and
+//! [`write`] those of each page of a graph in turn: the text of the graph, arc by arc, ascending. Both call the sink at
+//! least once for each page that has arcs. What they are made of is [`print_list`], which prints the lines of a page
+//! through a buffer of the caller: whoever has many short lists keeps one buffer for all of them, and so the sink is
+//! called once for some hundred lines.
 //!
 //! [`read`] reads such a text into a graph, or names its first faulty line, an [`ArcsError::Line`]. It also takes
 //! blanks between the numbers and round them, lines without words, comments that begin with `#`, and a CR before the

@@ -1,5 +1,5 @@
-//! Graphs as ASCIIGraph texts, as WebGraph's `ASCIIGraph` has them in files `.graph-txt`: the number of pages on the
-//! first line, and then a line for each page, with its successors in decimal digits.
+//! Graphs as ASCIIGraph texts: the number of pages, and then a line of successors for each page. WebGraph's
+//! `ASCIIGraph` has them in files `.graph-txt`.
 //!
 //! [`write`] puts the text of a graph to a sink: the words of a line are parted by one space, and each line is ended by
 //! LF. [`print_nodes`] and [`print_list`] print one line of it through a buffer, for a graph whose lists come one after

@@ -1,5 +1,4 @@
-//! Numbers and short texts into any sink, through a fixed buffer, so that a sink is called once for some thousand
-//! bytes; and files that are read in whole lines.
+//! Numbers and short texts into any sink, through a fixed buffer; and files that are read in whole lines.
 //!
 //! [`Lines`] prints a number in decimal digits, a byte, a text of up to [`MOST_PIECE`] bytes, or a line of two numbers.
 //! What was printed goes out in order, and all of it once it is flushed; if the sink refuses a write, a proper prefix

@@ -1,5 +1,5 @@
-//! Worked values to hold the other crates against, as tables that anyone can read: they come from the formats'
-//! descriptions and not from a program. And graphs as large as one likes, which follow from a seed.
+//! Worked values to hold the other crates against, and graphs from a seed. The tables come from the formats'
+//! descriptions and not from a program.
 //!
 //! [`VECTORS`] has words of the five codes, [`NO_WORDS`] bits that are no word, and [`FOLDS`] numbers of either sign
 //! with their values. `wg_tests` runs each of them through `wg_codes`, both ways.
