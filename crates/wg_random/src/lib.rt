@@ -29,8 +29,8 @@
 //! source that goes to any offset of its bits and tells where the record of a page lies ([`Located`]); of a file in a
 //! depot it reads no other record. [`spot`] does so from bytes in memory, by offsets that are held. The heads of these
 //! records are validated first, from the page down, and then the whole records, from the last one up, and the answer is
-//! the list of the page or the first fault. The functions of [`laws`] state that there is one answer, and that it is the
-//! page's list of the graph if the archive is accepted.
+//! the list of the page or the first fault. The functions of [`laws`] state that there is one answer, and that it is
+//! the page's list of the graph if the archive is accepted.
 //!
 //! [`Records::sweep`] needs no offsets: it makes a [`Sweep`](wg_stream::Sweep) over the lists of all pages, for which
 //! the records are not passed over again.
