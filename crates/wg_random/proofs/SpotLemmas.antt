@@ -20,7 +20,7 @@ use Rattle.wg_grammar.specs.declared.fault.Kind.TheVariants as kind
 use Rattle.wg_grammar.specs.Context.{Known, Context, no_page}
 use Rattle.wg_grammar.specs.Record.{Whole, ReadsRecord}
 use Rattle.wg_decoder.specs.Apart.{page_over, HeadStands, HeadFails}
-use Rattle.wg_decoder.proofs.ApartLemmas.{head_refused}
+use Rattle.wg_decoder.proofs.HeadLemmas.{head_refused}
 use Rattle.wg_stream.specs.declared.error.PagesError.{PagesError}
 use Rattle.wg_stream.specs.declared.error.PagesError.TheVariants as pages
 use Rattle.wg_stream.specs.Errors.{OfFault, OnFault}

@@ -19,8 +19,7 @@ use Rattle.wg_grammar.specs.Refusal.{refusal}
 use Rattle.wg_grammar.specs.Members.{list_of, is_covered}
 use Rattle.wg_grammar.specs.Record.{Whole, Stands, Fields, ReadsRecord}
 use Rattle.wg_decoder.specs.Apart.{of_outdegree, page_over, HeadStands}
-use Rattle.wg_decoder.proofs.HeadLemmas.{outdegree_due, reference_due}
-use Rattle.wg_decoder.proofs.ApartLemmas.{no_reference_stands}
+use Rattle.wg_decoder.proofs.HeadLemmas.{outdegree_due, reference_due, no_reference_stands}
 use Rattle.wg_decoder.proofs.ProperLemmas.Transfer.{fields_keep, fields_near}
 use Rattle.wg_decoder.specs.Chains.{endless}
 

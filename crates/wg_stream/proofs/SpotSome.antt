@@ -20,8 +20,7 @@ use Rattle.wg_grammar.specs.Refusal.{refusal, judged}
 use Rattle.wg_grammar.specs.SoFar.{nothing_yet, after}
 use Rattle.wg_grammar.proofs.SomeRecord.{record_some}
 use Rattle.wg_decoder.specs.Apart.{of_outdegree, page_over, RefersNext, OutdegreeStands, ReferenceStands, HeadStands, HeadFails}
-use Rattle.wg_decoder.proofs.HeadLemmas.{reference_due}
-use Rattle.wg_decoder.proofs.ApartLemmas.{no_reference_stands, reference_near}
+use Rattle.wg_decoder.proofs.HeadLemmas.{reference_due, no_reference_stands, reference_near}
 use Rattle.wg_decoder.specs.Chains.{endless, start_of, HeadReads, RecordReads, RefersTo, OverReads, SpotReads}
 use Rattle.wg_stream.proofs.SpotOne.{outdegree_coded, reference_coded, endless_limits}
 
