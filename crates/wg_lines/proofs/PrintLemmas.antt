@@ -1,6 +1,9 @@
 -- Texts that are printed one after the other, and what of them is out.
-use Rattle.std.proofs.Common.{◌≡◌, ℕ, List, [], ◌++◌, length, take, drop, refl, sym, ap, subst, ◌∙◌, arith, append_assoc, length-append, length-drop, Result, Ok, Err}
-use Rattle.std.proofs.lemmas.List.{append-nil, take_at, take-append-drop}
+use Rattle.std.proofs.Common.{◌≡◌, ℕ, ◌+◌, ◌-◌, ◌<◌, ◌≤◌, List, [], ◌∷◌, ◌++◌, length, set, take, drop, refl, sym, ap, subst, ◌∙◌, arith, append_assoc, length-append, length-drop, Result, Ok, Err}
+use borrow.Rule.Slice.PartMut.{mid_of, put_mid, same_len_mid}
+use Rattle.std.proofs.lemmas.Grind.{take-set_at}
+use Rattle.std.proofs.lemmas.List.{append-nil, length-take, length-take-le, take_at, take-append-drop, take-append-le}
+use Rattle.std.proofs.Math.Seq.{take-append-add}
 use Rattle.wg_outside.specs.Puts.{Puts}
 use Rattle.wg_outside.proofs.PutsLemmas.{puts_more}
 use Rattle.wg_lines.specs.Printing.{HasPrinted, HasPrintedLess, Prints}
@@ -87,3 +90,28 @@ puts_of_less old new t e h = (
 -- all is printed, and then what waits goes out
 pub puts_in_the_end : {E : Type 0} (a b c t waits : List ℕ) (r : Result (Unit {0}) E) → HasPrinted a b [] t waits → Puts waits b c r → Puts t a c r
 puts_in_the_end a b c t waits r h put = subst (λ (l : List ℕ). Puts l a c r) (sym h.bytes) (puts_more h.out waits a b c r h.taken put)
+
+-- ---- in the buffer
+
+-- the first bytes of what was stored at a place
+stored_front : (a k n : ℕ) (xs ys : List ℕ) → a ≤ length xs → n ≤ length ys → take (a + n) (put_mid a k xs ys) ≡ take a xs ++ take n ys
+stored_front a k n xs ys there few =
+    ap (λ (m : ℕ). take (m + n) (put_mid a k xs ys)) (sym (length-take-le a xs there))
+    ∙ take-append-add (take a xs) (ys ++ drop k (drop a xs)) n
+    ∙ ap (λ (l : List ℕ). take a xs ++ l) (take-append-le n ys (drop k (drop a xs)) few)
+
+-- the start of a line, a number behind it, and the end of the line, in so many bytes
+pub line_stored : (size a k n m : ℕ) (xs start digits : List ℕ) → length xs ≡ size → a + n + m < size
+    → length start ≡ length (mid_of a k xs) → n ≤ length start
+    → length digits ≡ length (mid_of (a + n) (size - (a + n)) (put_mid a k xs start))
+    → take (a + n + m + 1) (set (put_mid (a + n) (size - (a + n)) (put_mid a k xs start) digits) (a + n + m) 10)
+    ≡ take a xs ++ (take n start ++ take m digits ++ 10 ∷ [])
+line_stored size a k n m xs start digits whole room same few long =
+    let first = put_mid a k xs start in
+    let second = put_mid (a + n) (size - (a + n)) first digits in
+    let one : length first ≡ size = same_len_mid a k xs start same ∙ whole in
+    let two : length second ≡ size = same_len_mid (a + n) (size - (a + n)) first digits long ∙ one in
+    let most : m ≤ length digits = omega (arith, long, length-take (size - (a + n)) (drop (a + n) first), length-drop (a + n) first, one, room) in
+    rw (take-set_at second (a + n + m) (a + n + m + 1) 10 (omega arith) (omega (arith, two, room)), stored_front (a + n) (size - (a + n)) m first digits (omega (arith, one, room)) most, stored_front a k n xs start (omega (arith, whole, room)) few)
+    (ap (λ (l : List ℕ). l ++ 10 ∷ []) (append_assoc (take a xs) (take n start) (take m digits))
+    ∙ append_assoc (take a xs) (take n start ++ take m digits) (10 ∷ []))

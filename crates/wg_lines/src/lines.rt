@@ -72,19 +72,6 @@ impl Lines {
         self.len = end;
     }
 
-    // Lets the first `count` bytes of a text wait. All of it is copied, which costs less than a copy of any other
-    // length.
-    #[inline(always)]
-    fn hold_prefix(&mut self, text: &[u8; MOST_START], count: usize)
-        requires count { count ≤ MOST_START }
-        requires room { length self.old + MOST_START ≤ BUFFER }
-        ensures { self.new ≡ self.old ++ take count text.now }
-    {
-        let end = self.len + MOST_START;
-        self.bytes[self.len..end].copy_from_slice(text);
-        self.len += count;
-    }
-
     // Lets a number wait, which takes up to 20 digits.
     #[inline(always)]
     fn hold_number(&mut self, number: u64)
@@ -218,15 +205,20 @@ impl Lines {
         self.hold(b"\n");
     }
 
-    // Lets a line wait that begins with a text.
+    // Lets a line wait that begins with the first `count` bytes of `start`. All of `start` is copied, which costs less
+    // than a copy of any other length, and the length is stored once.
     #[inline(always)]
     fn hold_pair_after(&mut self, start: &[u8; MOST_START], count: usize, second: u64)
         requires start { count ≤ MOST_START }
         requires room { length self.old + MOST_PIECE ≤ BUFFER }
         ensures { self.new ≡ self.old ++ (take count start.now ++ decimal second ++ codes "\n") }
     {
-        self.hold_prefix(start, count);
-        self.hold_end(second);
+        let from = self.len;
+        self.bytes[from..from + MOST_START].copy_from_slice(start);
+        let at = from + count;
+        let end = at + decimal_at(second, &mut self.bytes[at..]);
+        self.bytes[end] = b'\n';
+        self.len = end + 1;
     }
 
     // Lets a line of two numbers wait.

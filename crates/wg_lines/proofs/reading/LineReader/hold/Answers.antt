@@ -1,4 +1,4 @@
-use Rattle.std.proofs.Common.{◌≢◌, ℕ, List, get_or, length, sym, ap, subst, rules, arith}
+use Rattle.std.proofs.Common.{◌≢◌, ℕ, List, get_or, length, ap, subst, rules, arith}
 use Rattle.wg_lines.proofs.HoldLemmas.{piece_more, unlent}
 use Rattle.wg_lines.proofs.reading.LineReader.hold.Goals as goal
 
