@@ -3,7 +3,7 @@ use Rattle.std.specs.Result.{IfOk}
 use Rattle.wg_rank.specs.Intervals.{Intervals}
 use Rattle.wg_rank.specs.Weights.{AreWeights, weights_of}
 use Rattle.wg_rank.proofs.After.{ready, weighed_by}
-use Rattle.wg_rank.proofs.driving.room_for.Goals as goal
+use Rattle.wg_rank.proofs.driving.first_bounds.Goals as goal
 
 pub weighted-requires-clause-weights : goal.weighted-requires-clause-weights
 weighted-requires-clause-weights g c =
