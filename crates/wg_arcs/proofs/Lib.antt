@@ -9,5 +9,6 @@ pub mod ReadBack
 pub mod ReadNumbers
 pub mod SomeGraph
 pub mod Soundness
+pub mod Starts
 pub mod Texts
 pub mod Unique

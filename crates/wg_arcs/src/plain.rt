@@ -1,5 +1,5 @@
 // Lines in their plain form, as the text of a graph has them.
-ghost use Rattle.std.specs.Prelude.{◌≡◌, ◌<◌, ◌≤◌, ◌^◌, ◌∷◌, ◌++◌, codes, decimal, length, drop, IfSome, IsTrue};
+ghost use Rattle.std.specs.Prelude.{◌≡◌, ℕ, ◌+◌, ◌<◌, ◌≤◌, ◌^◌, ◌∷◌, ◌++◌, slice_index, codes, decimal, length, drop, IfSome, IsTrue};
 ghost use Rattle.wg_arcs.specs.Text.{arc_line};
 
 use wg_num::leading_15_digits;
@@ -29,7 +29,20 @@ pub fn plain_arc(text: &[u8]) -> Option<(u64, u64, &[u8])>
     Some((from, to, rest))
 }
 
-// Whether a text begins with another one. Few bytes are compared sooner one by one than by a call.
+// Whether two texts have the same four bytes at a place. They are compared as one number.
+#[inline(always)]
+fn same_four(text: &[u8], other: &[u8], at: usize) -> bool
+    requires text { at + 4 ≤ length text.now }
+    requires other { at + 4 ≤ length other.now }
+    ensures { IsTrue result → (i : ℕ) → i < 4 → slice_index text.now (at + i) ≡ slice_index other.now (at + i) }
+{
+    let here = u32::from_le_bytes([text[at], text[at + 1], text[at + 2], text[at + 3]]);
+    let there = u32::from_le_bytes([other[at], other[at + 1], other[at + 2], other[at + 3]]);
+    here == there
+}
+
+// Whether a text begins with another one. Of four to eight bytes the first four and the last four are compared, and few
+// others one by one, which is sooner done than a call.
 #[inline(always)]
 fn begins_with(text: &[u8], front: &[u8]) -> bool
     ensures front { IsTrue result → text.now ≡ front.now ++ drop (length front.now) text.now }
@@ -37,6 +50,12 @@ fn begins_with(text: &[u8], front: &[u8]) -> bool
 {
     if text.len() < front.len() {
         return false;
+    }
+    if 4 <= front.len() && front.len() <= 8 {
+        if !same_four(text, front, 0) {
+            return false;
+        }
+        return same_four(text, front, front.len() - 4);
     }
     for index in 0..front.len() {
         if text[index] != front[index] {
