@@ -12,6 +12,7 @@ use Rattle.wg_grammar.specs.Laws.{accepted_graph}
 use Rattle.wg_rank.specs.Rank.{low, high}
 use Rattle.wg_rank.specs.Intervals.{Intervals, AreBoundsOf, by_page}
 use Rattle.wg_rank.specs.Certified.{IsCertified}
+use Rattle.wg_rank.specs.Rounds.{bounds_after}
 use Rattle.wg_rank.specs.Claims.{claim_of_bounds}
 use Rattle.wg_rank.specs.CertificateText.{text_of_claim}
 use Rattle.wg_rank.specs.Weights.{AreWeights, weights_of}
