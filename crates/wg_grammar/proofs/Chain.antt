@@ -10,7 +10,8 @@ use Rattle.wg_grammar.specs.declared.need.Need.TheVariants as need
 use Rattle.wg_grammar.specs.Context.{Context}
 use Rattle.wg_grammar.specs.SoFar.{SoFar, value_or_0}
 use Rattle.wg_grammar.specs.Next.{next}
-use Rattle.wg_grammar.specs.Tally.{Tally, extra_of, missing_of}
+use Rattle.wg_grammar.specs.declared.progress.Tally.{Tally}
+use Rattle.wg_grammar.specs.Tally.{extra_of, missing_of}
 use Rattle.wg_grammar.proofs.FieldCodes.{gamma_or_delta, unary_gamma_or_delta, residual_code}
 
 -- the field that is needed; Copied for the check, and Record if nothing is

@@ -16,7 +16,8 @@ use Rattle.wg_grammar.specs.Context.{Context, referenced, depth_of}
 use Rattle.wg_grammar.specs.SoFar.{SoFar, value_or_0, last_of, source, own_block, own_left, own_residual, after}
 use Rattle.wg_grammar.specs.Next.{next, need_of}
 use Rattle.wg_grammar.specs.Refusal.{passes, refusal, refusal_of}
-use Rattle.wg_grammar.specs.Tally.{Tally, tally, Follows}
+use Rattle.wg_grammar.specs.declared.progress.Tally.{Tally}
+use Rattle.wg_grammar.specs.Tally.{tally, Follows}
 use Rattle.wg_grammar.specs.Judging.{named, Gives}
 use Rattle.wg_grammar.specs.Steps.{given_length, given_depth, after_of, Due}
 use Rattle.wg_grammar.proofs.Chain.{field_of, tests, tested}

@@ -7,7 +7,8 @@ use Rattle.wg_grammar.specs.declared.need.Need.{Need}
 use Rattle.wg_grammar.specs.declared.need.Need.TheVariants as need
 use Rattle.wg_grammar.specs.Context.{Context}
 use Rattle.wg_grammar.specs.SoFar.{SoFar, value_or_0}
-use Rattle.wg_grammar.specs.Tally.{Tally, tally, extra_of, missing_of}
+use Rattle.wg_grammar.specs.declared.progress.Tally.{Tally}
+use Rattle.wg_grammar.specs.Tally.{tally, extra_of, missing_of}
 
 -- The outdegree comes first, and a page without successors has nothing more. A reference comes if the archive has a
 -- window; if it is not 0, the block count, the blocks, and then the check of what is copied. An interval count comes

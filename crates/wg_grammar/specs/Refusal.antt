@@ -10,7 +10,8 @@ use Rattle.wg_grammar.specs.declared.fault.Kind.{Kind}
 use Rattle.wg_grammar.specs.declared.fault.Kind.TheVariants as kind
 use Rattle.wg_grammar.specs.Context.{Context, depth_of}
 use Rattle.wg_grammar.specs.SoFar.{SoFar, value_or_0, own_number}
-use Rattle.wg_grammar.specs.Tally.{Tally, tally, extra_of, missing_of}
+use Rattle.wg_grammar.specs.declared.progress.Tally.{Tally}
+use Rattle.wg_grammar.specs.Tally.{tally, extra_of, missing_of}
 
 -- whether the number is a page of the archive
 abbrev pub is_page : Parameters → Option ℕ → Bool

@@ -7,7 +7,8 @@ use Rattle.wg_grammar.specs.declared.fault.Field.TheVariants as field
 use Rattle.wg_grammar.specs.declared.progress.Referenced.{Referenced}
 use Rattle.wg_grammar.specs.SoFar.{value_or_0}
 use Rattle.wg_grammar.specs.Refusal.{is_page, left_of, residual_of}
-use Rattle.wg_grammar.specs.Tally.{Tally, missing_of}
+use Rattle.wg_grammar.specs.declared.progress.Tally.{Tally}
+use Rattle.wg_grammar.specs.Tally.{missing_of}
 
 abbrev pub given_length : Option Referenced → ℕ
 given_length None = 0

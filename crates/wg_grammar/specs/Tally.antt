@@ -1,32 +1,10 @@
--- Numbers of what has been read of a record, from which all is told that comes next and that is allowed. A `Progress` is
--- seen as them.
-use Rattle.std.specs.Prelude.{◌≡◌, ℕ, ◌+◌, ◌-◌, Bool, length, sum, Option}
+-- Numbers of what has been read of a record, from which is told what comes next and what is allowed. Lists are kept by
+-- how many numbers they have, their sum, or their last number.
+use Rattle.std.specs.Prelude.{◌≡◌, ℕ, ◌+◌, ◌-◌, length, sum}
 use Rattle.wg_params.specs.Parameters.{Parameters}
+use Rattle.wg_grammar.specs.declared.progress.Tally.{Tally}
 use Rattle.wg_grammar.specs.Context.{Context}
 use Rattle.wg_grammar.specs.SoFar.{SoFar, value_or_0, last_of, source, copied}
-
--- Lists are kept by how many numbers they have, their sum, or their last number: source is how many members the
--- referenced list has, copied how many of these are copied, and covered how many numbers lie inside the intervals.
-pub record Tally : Type 0 where
-  pub params : Parameters
-  pub page : ℕ
-  pub arcs_before : ℕ
-  pub outdegree : Option ℕ
-  pub reference : Option ℕ
-  pub source : ℕ
-  pub block_count : Option ℕ
-  pub blocks : ℕ
-  pub blocks_sum : ℕ
-  pub copied : ℕ
-  pub checked : Bool
-  pub interval_count : Option ℕ
-  pub lefts : ℕ
-  pub last_left : ℕ
-  pub lengths : ℕ
-  pub last_length : ℕ
-  pub covered : ℕ
-  pub residuals : ℕ
-  pub last_residual : ℕ
 
 -- the numbers of a record of which s has been read
 abbrev pub tally : Parameters → Context → SoFar → Tally

@@ -17,77 +17,63 @@ pub struct Referenced {
     pub depth: u64,
 }
 
+/// Numbers of what has been read of a record: each field that comes once, and of the fields that come again and again
+/// how many were read, what they add to, or the last of them. What comes next and what is allowed is told from them.
+#[derive(Debug, Drop)]
+pub struct Tally {
+    pub params: Params,
+    pub page: u64,
+    // the sum of the outdegrees of the pages before
+    pub arcs_before: u64,
+    pub outdegree: Option<u64>,
+    pub reference: Option<u64>,
+    // how many members the referenced list has
+    pub source: u64,
+    pub block_count: Option<u64>,
+    // how many blocks have been read, and what they add to
+    pub blocks: u64,
+    pub blocks_sum: u64,
+    // how many members are copied, if no more blocks come
+    pub copied: u64,
+    pub checked: bool,
+    pub interval_count: Option<u64>,
+    pub lefts: u64,
+    pub last_left: u64,
+    pub lengths: u64,
+    pub last_length: u64,
+    // how many numbers lie inside the intervals
+    pub covered: u64,
+    pub residuals: u64,
+    pub last_residual: u64,
+}
+
 /// How far a record has been read: what comes next, and whether a value is allowed there.
 ///
 /// It keeps numbers alone and no lists, so it takes no memory, and each call takes constant time. Whoever reads a
 /// record asks for the next need, reads one word in its code, and hands the value over; a refused value changes
 /// nothing.
 ///
-/// It is seen as the parameters, the page, the arcs before it, and a tally of what has been read: each field that comes
-/// once, and of the fields that come again and again how many were read, what they add to, or the last of them.
+/// It is seen as the parameters, the page, the arcs before it, and a tally of what has been read.
 #[derive(Debug, Drop)]
 pub struct Progress {
-    params: Params,
-    page: u64,
-    // the sum of the outdegrees of the pages before
-    arcs_before: u64,
-    outdegree: Option<u64>,
-    reference: Option<u64>,
-    // how many members the referenced list has
-    source: u64,
-    block_count: Option<u64>,
-    // how many blocks have been read, and what they add to
-    blocks: u64,
-    blocks_sum: u64,
-    // how many members are copied, if no more blocks come
-    copied: u64,
-    checked: bool,
-    interval_count: Option<u64>,
-    lefts: u64,
-    last_left: u64,
-    lengths: u64,
-    last_length: u64,
-    // how many numbers lie inside the intervals
-    covered: u64,
-    residuals: u64,
-    last_residual: u64,
+    tally: Tally,
 }
 
 impl Model for Progress {
     ghost use Rattle.std.specs.Prelude.{◌≡◌, ◌≤◌, ◌<◌, ◌+◌, ◌%◌, unwrap_or};
     ghost use Rattle.std.specs.Option.{ForNone};
-    ghost use Rattle.wg_grammar.specs.Tally.{Tally};
+    ghost use Rattle.wg_grammar.specs.declared.progress.Tally.{Tally};
 
     ghost Value = { Tally };
 
-    ghost view = { λ q. record {
-      params = q.params;
-      page = q.page;
-      arcs_before = q.arcs_before;
-      outdegree = q.outdegree;
-      reference = q.reference;
-      source = q.source;
-      block_count = q.block_count;
-      blocks = q.blocks;
-      blocks_sum = q.blocks_sum;
-      copied = q.copied;
-      checked = q.checked;
-      interval_count = q.interval_count;
-      lefts = q.lefts;
-      last_left = q.last_left;
-      lengths = q.lengths;
-      last_length = q.last_length;
-      covered = q.covered;
-      residuals = q.residuals;
-      last_residual = q.last_residual;
-    } };
+    ghost view = { λ q. q.tally };
 
-    ghost invariant = { λ q. (q.page < q.params.nodes) × (q.arcs_before ≤ q.params.arcs)
-        × (unwrap_or q.outdegree 0 ≤ q.params.nodes) × (q.source ≤ q.params.nodes) × (q.blocks_sum ≤ q.source)
-        × (q.copied ≤ q.source) × (q.blocks % 2 ≡ 1 → q.copied ≤ q.blocks_sum) × (q.last_left ≤ q.params.nodes)
-        × (q.last_length ≤ q.params.nodes) × (q.covered ≤ q.params.nodes) × (q.residuals ≤ q.params.nodes)
-        × (q.last_residual ≤ q.params.nodes)
-        × ForNone q.reference (q.blocks + q.blocks_sum + unwrap_or q.block_count 0 ≡ 0) };
+    ghost invariant = { λ q. let t = q.tally in (t.page < t.params.nodes) × (t.arcs_before ≤ t.params.arcs)
+        × (unwrap_or t.outdegree 0 ≤ t.params.nodes) × (t.source ≤ t.params.nodes) × (t.blocks_sum ≤ t.source)
+        × (t.copied ≤ t.source) × (t.blocks % 2 ≡ 1 → t.copied ≤ t.blocks_sum) × (t.last_left ≤ t.params.nodes)
+        × (t.last_length ≤ t.params.nodes) × (t.covered ≤ t.params.nodes) × (t.residuals ≤ t.params.nodes)
+        × (t.last_residual ≤ t.params.nodes)
+        × ForNone t.reference (t.blocks + t.blocks_sum + unwrap_or t.block_count 0 ≡ 0) };
 }
 
 impl Progress {
@@ -113,25 +99,27 @@ impl Progress {
             → Follows result params.now c nothing_yet }
     {
         Progress {
-            params: *params,
-            page,
-            arcs_before,
-            outdegree: None,
-            reference: None,
-            source: 0,
-            block_count: None,
-            blocks: 0,
-            blocks_sum: 0,
-            copied: 0,
-            checked: false,
-            interval_count: None,
-            lefts: 0,
-            last_left: 0,
-            lengths: 0,
-            last_length: 0,
-            covered: 0,
-            residuals: 0,
-            last_residual: 0,
+            tally: Tally {
+                params: *params,
+                page,
+                arcs_before,
+                outdegree: None,
+                reference: None,
+                source: 0,
+                block_count: None,
+                blocks: 0,
+                blocks_sum: 0,
+                copied: 0,
+                checked: false,
+                interval_count: None,
+                lefts: 0,
+                last_left: 0,
+                lengths: 0,
+                last_length: 0,
+                covered: 0,
+                residuals: 0,
+                last_residual: 0,
+            },
         }
     }
 
@@ -147,37 +135,40 @@ impl Progress {
         ensures value { result ≡ need_of self.now }
         ensures early { ForNone self.now.reference (self.now.blocks ≡ 0) }
     {
-        let degree = match self.outdegree {
-            None => return Need::Read(Field::Outdegree, self.params.outdegrees()),
+        let degree = match self.tally.outdegree {
+            None => return Need::Read(Field::Outdegree, self.tally.params.outdegrees()),
             Some(degree) => degree,
         };
         if degree == 0 {
             return Need::End;
         }
-        if self.params.window() > 0 && self.reference.is_none() {
-            return Need::Read(Field::Reference, self.params.references());
+        if self.tally.params.window() > 0 && self.tally.reference.is_none() {
+            return Need::Read(Field::Reference, self.tally.params.references());
         }
-        let refers = self.reference.unwrap_or(0) > 0;
-        if refers && self.block_count.is_none() {
-            return Need::Read(Field::BlockCount, self.params.block_counts());
+        let refers = self.tally.reference.unwrap_or(0) > 0;
+        if refers && self.tally.block_count.is_none() {
+            return Need::Read(Field::BlockCount, self.tally.params.block_counts());
         }
-        if self.blocks < self.block_count.unwrap_or(0) {
-            return Need::Read(Field::Block, self.params.blocks());
+        if self.tally.blocks < self.tally.block_count.unwrap_or(0) {
+            return Need::Read(Field::Block, self.tally.params.blocks());
         }
-        if refers && !self.checked {
+        if refers && !self.tally.checked {
             return Need::Check;
         }
-        if self.extra() > 0 && self.params.interval() > 0 && self.interval_count.is_none() {
+        if self.extra() > 0
+            && self.tally.params.interval() > 0
+            && self.tally.interval_count.is_none()
+        {
             return Need::Read(Field::IntervalCount, Code::Gamma);
         }
-        if self.lengths < self.lefts {
+        if self.tally.lengths < self.tally.lefts {
             return Need::Read(Field::Length, Code::Gamma);
         }
-        if self.lefts < self.interval_count.unwrap_or(0) {
+        if self.tally.lefts < self.tally.interval_count.unwrap_or(0) {
             return Need::Read(Field::Left, Code::Gamma);
         }
         if self.missing() > 0 {
-            return Need::Read(Field::Residual, self.params.residuals());
+            return Need::Read(Field::Residual, self.tally.params.residuals());
         }
         Need::End
     }
@@ -186,7 +177,10 @@ impl Progress {
     fn extra(&self) -> u64
         ensures { result ≡ extra_of self.now }
     {
-        self.outdegree.unwrap_or(0).saturating_sub(self.copied)
+        self.tally
+            .outdegree
+            .unwrap_or(0)
+            .saturating_sub(self.tally.copied)
     }
 
     // How many of these are missing still.
@@ -194,8 +188,8 @@ impl Progress {
         ensures { result ≡ missing_of self.now }
     {
         self.extra()
-            .saturating_sub(self.covered)
-            .saturating_sub(self.residuals)
+            .saturating_sub(self.tally.covered)
+            .saturating_sub(self.tally.residuals)
     }
 
     /// Takes a value of the field that [`need`](Progress::need) says to read, or answers the first reason to refuse it.

@@ -14,7 +14,7 @@ impl Progress {
     fn within(&self, number: u64) -> Option<u64>
         ensures { result ≡ within self.now.params (Some number) }
     {
-        if number < self.params.nodes() {
+        if number < self.tally.params.nodes() {
             Some(number)
         } else {
             None
@@ -26,13 +26,13 @@ impl Progress {
         ensures { result ≡ within self.now.params (unfolded_from self.now.page value) }
     {
         let half = value / 2;
-        if half >= self.params.nodes() {
+        if half >= self.tally.params.nodes() {
             return None;
         }
         if value % 2 == 0 {
-            self.within(self.page + half)
-        } else if half < self.page {
-            Some(self.page - (half + 1))
+            self.within(self.tally.page + half)
+        } else if half < self.tally.page {
+            Some(self.tally.page - (half + 1))
         } else {
             None
         }
@@ -42,26 +42,26 @@ impl Progress {
     pub(super) fn left(&self, value: u64) -> Option<u64>
         ensures { result ≡ within self.now.params (left_of self.now value) }
     {
-        if self.lefts == 0 {
+        if self.tally.lefts == 0 {
             return self.page_from(value);
         }
-        if value >= self.params.nodes() {
+        if value >= self.tally.params.nodes() {
             return None;
         }
-        self.within(self.last_left + self.last_length + 1 + value)
+        self.within(self.tally.last_left + self.tally.last_length + 1 + value)
     }
 
     // The residual that the value stands for, if it is a page.
     pub(super) fn residual(&self, value: u64) -> Option<u64>
         ensures { result ≡ within self.now.params (residual_of self.now value) }
     {
-        if self.residuals == 0 {
+        if self.tally.residuals == 0 {
             return self.page_from(value);
         }
-        if value >= self.params.nodes() {
+        if value >= self.tally.params.nodes() {
             return None;
         }
-        self.within(self.last_residual + 1 + value)
+        self.within(self.tally.last_residual + 1 + value)
     }
 
     // The first reason to refuse a value. Codes have values of up to 64 bits, so each is compared before it is added.
@@ -77,9 +77,13 @@ impl Progress {
         match field {
             Field::Outdegree => self.refuse_outdegree(value),
             Field::Reference => self.refuse_reference(value, referenced),
-            Field::BlockCount => (value.saturating_sub(1) > self.source).then_some(Kind::Range),
+            Field::BlockCount => (value.saturating_sub(1) > self.tally.source).then_some(
+                Kind::Range,
+            ),
             Field::Block => self.refuse_block(value),
-            Field::Copied => (self.copied > self.outdegree.unwrap_or(0)).then_some(Kind::Copied),
+            Field::Copied => (self.tally.copied > self.tally.outdegree.unwrap_or(0)).then_some(
+                Kind::Copied,
+            ),
             Field::IntervalCount => self.refuse_interval_count(value),
             Field::Left => self.left(value).is_none().then_some(Kind::Range),
             Field::Length => self.refuse_length(value),
@@ -91,25 +95,25 @@ impl Progress {
     fn refuse_outdegree(&self, value: u64) -> Option<Kind>
         ensures { result ≡ refusal_of self.now 0 Field.Outdegree value }
     {
-        if value > self.params.nodes() {
+        if value > self.tally.params.nodes() {
             return Some(Kind::Range);
         }
-        let arcs = self.params.arcs();
-        (self.arcs_before + value > arcs).then_some(Kind::Total)
+        let arcs = self.tally.params.arcs();
+        (self.tally.arcs_before + value > arcs).then_some(Kind::Total)
     }
 
     fn refuse_reference(&self, value: u64, referenced: Option<Referenced>) -> Option<Kind>
         requires { ForSome referenced (λ r. r.depth < self.now.page) }
         ensures { result ≡ refusal_of self.now (given_depth referenced) Field.Reference value }
     {
-        if value > self.params.window().min(self.page) {
+        if value > self.tally.params.window().min(self.tally.page) {
             return Some(Kind::Range);
         }
         let depth = match referenced {
             Some(r) => r.depth + 1,
             None => 0,
         };
-        match self.params.chain() {
+        match self.tally.params.chain() {
             Some(limit) if depth > limit => Some(Kind::Chain),
             _ => None,
         }
@@ -118,8 +122,8 @@ impl Progress {
     fn refuse_block(&self, value: u64) -> Option<Kind>
         ensures { result ≡ refusal_of self.now 0 Field.Block value }
     {
-        let left = self.source - self.blocks_sum;
-        let passes = if self.blocks == 0 {
+        let left = self.tally.source - self.tally.blocks_sum;
+        let passes = if self.tally.blocks == 0 {
             value > left
         } else {
             value >= left
@@ -130,19 +134,19 @@ impl Progress {
     fn refuse_interval_count(&self, value: u64) -> Option<Kind>
         ensures { result ≡ refusal_of self.now 0 Field.IntervalCount value }
     {
-        let numbers = value as u128 * self.params.interval() as u128;
+        let numbers = value as u128 * self.tally.params.interval() as u128;
         (numbers > self.extra() as u128).then_some(Kind::Range)
     }
 
     fn refuse_length(&self, value: u64) -> Option<Kind>
         ensures { result ≡ refusal_of self.now 0 Field.Length value }
     {
-        let nodes = self.params.nodes();
+        let nodes = self.tally.params.nodes();
         if value > nodes {
             return Some(Kind::Range);
         }
-        let length = value + self.params.interval();
-        let passes = length > self.missing() || self.last_left + length > nodes;
+        let length = value + self.tally.params.interval();
+        let passes = length > self.missing() || self.tally.last_left + length > nodes;
         passes.then_some(Kind::Range)
     }
 }

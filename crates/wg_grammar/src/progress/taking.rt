@@ -21,32 +21,32 @@ impl Progress {
         ensures after { self.new ≡ after_of self.old referenced field value }
     {
         match field {
-            Field::Outdegree => self.outdegree = Some(value),
+            Field::Outdegree => self.tally.outdegree = Some(value),
             Field::Reference => {
-                self.reference = Some(value);
-                self.source = match referenced {
+                self.tally.reference = Some(value);
+                self.tally.source = match referenced {
                     Some(r) => r.length,
                     None => 0,
                 };
-                self.copied = self.source;
+                self.tally.copied = self.tally.source;
             }
-            Field::BlockCount => self.block_count = Some(value),
+            Field::BlockCount => self.tally.block_count = Some(value),
             Field::Block => self.take_block(value),
-            Field::Copied => self.checked = true,
-            Field::IntervalCount => self.interval_count = Some(value),
+            Field::Copied => self.tally.checked = true,
+            Field::IntervalCount => self.tally.interval_count = Some(value),
             Field::Left => {
-                self.last_left = self.left(value).unwrap_or(0);
-                self.lefts += 1;
+                self.tally.last_left = self.left(value).unwrap_or(0);
+                self.tally.lefts += 1;
             }
             Field::Length => {
-                let length = value + self.params.interval();
-                self.lengths += 1;
-                self.last_length = length;
-                self.covered += length;
+                let length = value + self.tally.params.interval();
+                self.tally.lengths += 1;
+                self.tally.last_length = length;
+                self.tally.covered += length;
             }
             Field::Residual => {
-                self.last_residual = self.residual(value).unwrap_or(0);
-                self.residuals += 1;
+                self.tally.last_residual = self.residual(value).unwrap_or(0);
+                self.tally.residuals += 1;
             }
             Field::Record => {}
         }
@@ -62,15 +62,19 @@ impl Progress {
           copied = copied_after self.old (self.old.blocks_sum + block_at self.old.blocks value);
         } }
     {
-        let block = if self.blocks == 0 { value } else { value + 1 };
-        let end = self.blocks_sum + block;
-        let rest = self.source - end;
-        if self.blocks % 2 == 0 {
-            self.copied = self.copied.saturating_sub(rest);
+        let block = if self.tally.blocks == 0 {
+            value
         } else {
-            self.copied += rest;
+            value + 1
+        };
+        let end = self.tally.blocks_sum + block;
+        let rest = self.tally.source - end;
+        if self.tally.blocks % 2 == 0 {
+            self.tally.copied = self.tally.copied.saturating_sub(rest);
+        } else {
+            self.tally.copied += rest;
         }
-        self.blocks_sum = end;
-        self.blocks += 1;
+        self.tally.blocks_sum = end;
+        self.tally.blocks += 1;
     }
 }
