@@ -4,7 +4,7 @@ use Rattle.std.specs.Fmt.{decimal}
 use Rattle.std.proofs.lemmas.Grind.{take-set_at}
 use Rattle.itoa.proofs.Decimal.{PAIRS_at, decimal_pair, decimal_four}
 use Rattle.wg_num.specs.declared.digits.TheConstants.{PAIRS}
-use Rattle.wg_num.specs.Decimal.{pair_digits}
+use Rattle.wg_num.specs.Pairs.{pair_digits}
 
 -- the table is that of `itoa`
 pub pair_at : (p : ℕ) → p < 100 → (get_or PAIRS (p * 2) 0 ≡ 48 + p / 10) × (get_or PAIRS (p * 2 + 1) 0 ≡ 48 + p % 10)

@@ -1,6 +1,6 @@
 // The digits of a number, written from the first one on, two at a time: no digit is counted before it is written.
 ghost use Rattle.std.specs.Prelude.{◌≡◌, ◌+◌, ◌<◌, ◌≤◌, ◌++◌, length, take, decimal};
-ghost use Rattle.wg_num.specs.Decimal.{pair_digits};
+ghost use Rattle.wg_num.specs.Pairs.{pair_digits};
 
 // The two digits of each number below 100.
 static PAIRS: [u8; 200] =
