@@ -1,10 +1,10 @@
 -- Sums along runs of pages, as differences of the sums of all pages below.
 use Rattle.std.specs.List.{sum_by, range_with_len}
 use Rattle.std.specs.Simd.Lanes.{zip2}
-use Rattle.std.proofs.Common.{ℕ, zero, suc, ◌≡◌, ◌≢◌, ◌+◌, ◌-◌, ◌*◌, ◌/◌, ◌%◌, ◌^◌, ◌<◌, ◌≤◌, All, List, [], ◌∷◌, length, get_or, set, Bool, false, cond, refl, ap, arith, sym, ◌∙◌, add-one, inl, inr}
+use Rattle.std.proofs.Common.{ℕ, zero, suc, ◌≡◌, ◌≢◌, ◌+◌, ◌-◌, ◌*◌, ◌/◌, ◌%◌, ◌^◌, ◌<◌, ◌≤◌, All, List, [], ◌∷◌, length, take, get_or, get_or-set_same, get_or-set_other, set, Bool, false, cond, refl, ap, arith, sym, ◌∙◌, add-one, inl, inr}
 use Rattle.std.proofs.Math.Nat.{mod-eq_of_lt}
 use Rattle.std.proofs.lemmas.Bool.{cases_Bool, cases_eq, ne_eqb, eq-eqb}
-use Rattle.std.proofs.lemmas.List.{nil_from_length, length-set}
+use Rattle.std.proofs.lemmas.List.{nil_from_length, length-set, length-take-le, get_or-take}
 use Rattle.std.proofs.lemmas.List.Elements.{All-nil, All-cons}
 use Rattle.std.proofs.lemmas.List.Sums.{sum_by-cons, sum_by-append}
 use Rattle.wg_params.specs.declared.limits.TheConstants.{MOST_PAGES}
@@ -17,10 +17,10 @@ use Rattle.wg_transpose.specs.Runs.{numbers_of, numbers_of_all, StandApart}
 use Rattle.wg_rank.specs.Sum.{sum_below}
 use Rattle.wg_rank.specs.Rank.{sum_in}
 use Rattle.wg_rank.specs.Pulling.{given, along}
-use Rattle.wg_rank.specs.Lanes.{low_bits, high_bits, in_lanes, AreSummed, AreRunsTo}
+use Rattle.wg_rank.specs.Lanes.{low_bits, high_bits, in_lanes, run_lane, page_lane, AreSummed, AreWritten, AreRunsTo}
+use Rattle.wg_rank.specs.Shares.{AreShares}
 use Rattle.wg_rank.specs.declared.limits.TheConstants.{UNITS}
 use Rattle.wg_rank.proofs.Sums.{sum_same}
-use Rattle.wg_rank.proofs.Settled.{list_more}
 use Rattle.wg_rank.proofs.LaneSums.{low_bits_small, high_bits_small, lanes_none, lanes_of_page, lanes_sum, bits_join}
 use Rattle.wg_rank.proofs.Flow.{flow_le}
 
@@ -110,17 +110,40 @@ sums_more_some g x y u p q sums e h j k m n =
     (lanes_of_page low high u p q (j ∙ sym (given_some g x u e)) (k ∙ sym (given_some g y u e)) m n)
     ∙ lanes_sum (sum_below u) (λ (s : ℕ → ℕ). s u) low high)
 
--- behind the last page, all that pages give is summed
-pub summed_end : (n m u : ℕ) (low high : ℕ → ℕ) (last : List ℕ) (xs : List (List ℕ)) → u ≡ n → m ≡ n → length xs ≡ n + 1 → last ≡ in_lanes (sum_below u) low high
-    → ((w : ℕ) → w < u → get_or xs w [] ≡ in_lanes (sum_below w) low high) → ((w : ℕ) → w < n → low w ≤ UNITS) → ((w : ℕ) → w < n → high w ≤ UNITS)
-    → AreSummed n low high (set xs m last)
-summed_end n m u low high last xs e f count here below small above = record {
-  pages = length-set xs m last ∙ count;
-  each = λ v w. list_more [] m xs last (λ w. in_lanes (sum_below w) low high) (omega arith)
-      (here ∙ ap (λ (k : ℕ). in_lanes (sum_below k) low high) {y = m} (omega arith)) (λ w h. below w (omega arith)) v (omega arith);
+-- behind the last page it is written what all of them give
+pub written_end : (lane : (ℕ → ℕ) → (ℕ → ℕ) → ℕ → List ℕ) (n m u : ℕ) (low high : ℕ → ℕ) (total : List ℕ) (xs : List (List ℕ)) → u ≡ n → m ≡ n → length xs ≡ n + 1
+    → total ≡ in_lanes (sum_below u) low high → ((w : ℕ) → w < u → get_or xs w [] ≡ lane low high w) → ((w : ℕ) → w < n → low w ≤ UNITS) → ((w : ℕ) → w < n → high w ≤ UNITS)
+    → AreWritten lane n low high (set xs m total)
+written_end lane n m u low high total xs e f count here below small above = record {
+  pages = length-set xs m total ∙ count;
+  each = λ v lt. get_or-set_other xs m v total [] (λ same. omega arith) ∙ below v (omega arith);
+  last =
+      ap (λ (k : ℕ). get_or (set xs m total) k []) (sym f) ∙ get_or-set_same xs m total [] (omega arith)
+      ∙ here ∙ ap (λ (k : ℕ). in_lanes (sum_below k) low high) e;
   low_small = small;
   high_small = above;
 }
+
+-- what stands there then, if it was written for runs, and for pages one by one
+module _ (n : ℕ) (low high : ℕ → ℕ) (lanes : List (List ℕ)) where
+  pub summed_from : AreWritten run_lane n low high lanes → AreSummed n low high lanes
+  summed_from h = record {
+    pages = h.pages;
+    each = λ u lt. elim (cases_eq u n) [
+      | inl same ↦ rw same h.last
+      | inr other ↦ h.each u (omega arith)
+    ];
+    low_small = h.low_small;
+    high_small = h.high_small;
+  }
+
+  pub shares_from : (k : ℕ) → k ≡ n → AreWritten page_lane n low high lanes → AreShares n low high (take k lanes)
+  shares_from k is h = record {
+    pages = length-take-le k lanes (omega (arith, h.pages)) ∙ is;
+    each = λ u lt. get_or-take k lanes u [] (omega arith) ∙ h.each u lt;
+    low_small = h.low_small;
+    high_small = h.high_small;
+  }
 
 -- ---- along runs
 

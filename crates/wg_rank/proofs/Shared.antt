@@ -1,6 +1,6 @@
 -- What the pages share out, as loops over the pages leave it.
 use Rattle.std.specs.Int.{div_ceil}
-use Rattle.std.proofs.Common.{ℕ, ◌≡◌, ◌+◌, ◌*◌, ◌/◌, ◌^◌, ◌<◌, ◌≤◌, ◌==◌, All, List, [], length, get_or, cond, replicate, refl, ap, ◌∙◌, arith}
+use Rattle.std.proofs.Common.{ℕ, ◌≡◌, ◌+◌, ◌*◌, ◌/◌, ◌^◌, ◌<◌, ◌≤◌, ◌==◌, All, List, length, get_or, cond, replicate, refl, ap, ◌∙◌, arith}
 use Rattle.std.proofs.Math.Nat.{div-le_self}
 use Rattle.std.proofs.lemmas.List.Elements.{All-replicate}
 use Rattle.wg_params.specs.declared.limits.TheConstants.{MOST_PAGES}
@@ -9,12 +9,8 @@ use Rattle.wg_rank.specs.Sum.{sum_below}
 use Rattle.wg_rank.specs.Rank.{sum_dangling}
 use Rattle.wg_rank.specs.Intervals.{by_page}
 use Rattle.wg_rank.specs.Inflows.{low_flows, high_flows, AreFlows}
-use Rattle.wg_rank.specs.Lanes.{in_lanes}
-use Rattle.wg_rank.specs.Pulling.{low_share, high_share, given}
-use Rattle.wg_rank.specs.Shares.{AreShares}
 use Rattle.wg_rank.specs.declared.limits.TheConstants.{UNITS}
 use Rattle.wg_rank.proofs.Flow.{Gathered, Dangling, le_both, gathered_room, gathered_within, dangling_room, dangling_within, div_ceil_le}
-use Rattle.wg_rank.proofs.Runs.{given_le}
 use Rattle.wg_rank.proofs.SideBySide.{low_count, high_count}
 
 -- the loop has gone through all pages
@@ -96,16 +92,3 @@ flows_end g n u low high xs few m e a b c h i p q =
       low_room = gathered_within g n u (λ w. get_or low w 0 / outdegree g w) (low_flows xs) (omega (arith, le, few)) pages (low_below g n u low a le h) p;
       high_room = gathered_within g n u (λ w. div_ceil (get_or high w 0) (outdegree g w)) (high_flows xs) (omega (arith, le, few)) (high_count xs ∙ pages) (high_below g n u high b le i) q;
     }
-
--- ---- what each page gives, in lanes
-
-pub shares_end : (g : Digraph) (n u : ℕ) (low high : List ℕ) (shares : List (List ℕ)) → g.nodes ≡ n → u ≡ g.nodes → length low ≡ n → length high ≡ n → length shares ≡ n
-    → All (λ x. x ≤ UNITS) low → All (λ x. x ≤ UNITS) high
-    → ((w : ℕ) → w < u → get_or shares w [] ≡ in_lanes (λ s. s w) (given g (low_share g (by_page low))) (given g (high_share g (by_page high))))
-    → AreShares g.nodes (given g (low_share g (by_page low))) (given g (high_share g (by_page high))) shares
-shares_end g n u low high shares m e a b c h i each = record {
-  pages = omega (arith, c, m);
-  each = λ v w. each v (omega (arith, e, w));
-  low_small = λ v w. given_le g (low_share g (by_page low)) v UNITS (low_below g n g.nodes low a (omega (arith, m)) h v w);
-  high_small = λ v w. given_le g (high_share g (by_page high)) v UNITS (high_below g n g.nodes high b (omega (arith, m)) i v w);
-}

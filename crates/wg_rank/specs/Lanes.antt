@@ -27,6 +27,21 @@ pub record AreSummed (n : ℕ) (low high : ℕ → ℕ) (sums : List (List ℕ))
   pub low_small : (u : ℕ) → u < n → low u ≤ UNITS
   pub high_small : (u : ℕ) → u < n → high u ≤ UNITS
 
+-- what all pages below page u give, and what it gives
+abbrev pub run_lane : (ℕ → ℕ) → (ℕ → ℕ) → ℕ → List ℕ
+run_lane low high u = in_lanes (sum_below u) low high
+
+abbrev pub page_lane : (ℕ → ℕ) → (ℕ → ℕ) → ℕ → List ℕ
+page_lane low high u = in_lanes (λ s. s u) low high
+
+-- For each of n pages there is what `lane` tells, and behind the last one what all of them add up to. Each is at most 1.
+pub record AreWritten (lane : (ℕ → ℕ) → (ℕ → ℕ) → ℕ → List ℕ) (n : ℕ) (low high : ℕ → ℕ) (lanes : List (List ℕ)) : Type 0 where
+  pub pages : length lanes ≡ n + 1
+  pub each : (u : ℕ) → u < n → get_or lanes u [] ≡ lane low high u
+  pub last : get_or lanes n [] ≡ in_lanes (sum_below n) low high
+  pub low_small : (u : ℕ) → u < n → low u ≤ UNITS
+  pub high_small : (u : ℕ) → u < n → high u ≤ UNITS
+
 -- these are the runs of the pages that link to page v
 pub record AreRunsTo (g : Digraph) (v : ℕ) (runs : List PageRun) : Type 0 where
   pub apart : StandApart 0 runs

@@ -56,8 +56,7 @@ impl Model for Bounds {
 
 impl Bounds {
     /// The bounds of `n` pages before the first round, 0 and 1, at a damping in thousandths. Teleport goes to each page
-    /// alike. All memory of later rounds is taken here, but for the room of a [`crate::Pulling`] or
-    /// [`crate::ListPulling`].
+    /// alike. All memory of later rounds is taken here, but for the room of a [`crate::Pulling`].
     pub fn new(alloc: Global, n: u64, damping: u64) -> Result<Bounds, AllocError>
         requires pages { n ≤ MOST_PAGES }
         requires damping { damping ≤ MOST_DAMPING }

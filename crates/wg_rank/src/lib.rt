@@ -16,12 +16,12 @@
 //! ```
 //!
 //! Three ways lead to the same bounds. [`Bounds::round`] reads the lists of successors in each round. [`Bounds::pull`]
-//! does so too, or goes along what was made of them once. [`wg_transpose::Runs`] are of use if the pages that link to one
-//! page are often neighbours, as those of a folder, so that a few runs hold many arcs. First it adds up what each page
-//! gives to each of its successors, over all pages below each page; a dangling page gives nothing there. What the pages
-//! of a run give is then the difference of two such sums. A [`Pulling`] has the runs and the room for these sums. If
-//! runs are rare, a [`ListPulling`] has [`wg_transpose::InLists`], the pages that link to each page one by one, and the room
-//! for what each page gives to each of its successors; what flows to a page is then the sum over its list.
+//! does so too, or goes along what was made of them once: [`wg_transpose::InArcs`], with the room for a round beside
+//! them, are a [`Pulling`]. Runs are of use if the pages that link to one page are often neighbours, as those of a
+//! folder, so that a few runs hold many arcs. First it adds up what each page gives to each of its successors, over all
+//! pages below each page; a dangling page gives nothing there. What the pages of a run give is then the difference of
+//! two such sums. If runs are rare, the pages that link to each page are listed one by one, and it is written what each
+//! page gives to each of its successors; what flows to a page is then the sum over its list.
 //!
 //! ```text
 //! low, high --> share: each page's shares, added up --> flow: a difference a run ---------------> what flows in
@@ -64,7 +64,7 @@
 //! |---|---|---|
 //! | [`Bounds::new`] | four numbers of 16 bytes for each page | that of the pages |
 //! | [`Bounds::weighted`] | the same, and 8 bytes for each page | that of the pages |
-//! | [`Pulling::new`], [`ListPulling::new`] | 32 bytes for each page | that of the pages |
+//! | [`Pulling::new`] | 32 bytes for each page | that of the pages |
 //! | [`Bounds::round`] | none | quotients by its outdegree and by 1000 for each page, and two sums for each arc |
 //! | [`Bounds::pull`] along runs | none | the same for each page; a difference and a sum of four lanes for each run |
 //! | [`Bounds::pull`] along lists of predecessors | none | the same for each page; a sum of four lanes for each arc |
@@ -105,8 +105,8 @@ mod advancing;
 mod bounds;
 mod certificate;
 mod dividing;
-mod driving;
 mod divisor;
+mod driving;
 mod fault;
 mod gathering;
 mod inflows;
@@ -119,7 +119,7 @@ mod parts;
 mod pulled;
 mod pulling;
 mod reading;
-
+mod run_pulling;
 mod settling;
 mod spreading;
 mod teleport;
@@ -134,10 +134,8 @@ pub use gathering::Gather;
 pub use judging::judge;
 pub use limits::MOST_WEIGHT;
 pub(crate) use limits::UNITS;
-pub use list_pulling::ListPulling;
 pub use pulled::{Pulled, bounds_by_rounds, pulled_for};
-pub use pulling::Pulling;
+pub use pulling::{Along, Pulling};
 pub use reading::read_certificate;
-
 pub use ways::{MOST_ROUND_ROOM, PAGE_ROUND_ROOM, Way, way_for};
 pub use writing::write_certificate;

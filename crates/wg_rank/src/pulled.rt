@@ -10,19 +10,18 @@ ghost use Rattle.wg_rank.specs.Pulled.{pulled_graph};
 
 use crate::driving::last_bounds;
 use crate::ways::{Way, way_for};
-use crate::{Bounds, ListPulling, Pulling};
+use crate::{Bounds, Pulling};
 use std::alloc::{AllocError, Global};
 use wg_graph::Lists;
-
-use wg_transpose::{MOST_PAGES_IN_RUNS, RunCounts};
+use wg_transpose::{MOST_PAGES_IN_RUNS, PageRun, RunCounts};
 
 /// The pages that link to each page, which rounds go along.
 #[derive(Drop)]
 pub enum Pulled {
     /// As runs.
-    Runs(Pulling),
+    Runs(Pulling<PageRun>),
     /// Listed one by one.
-    InLists(ListPulling),
+    InLists(Pulling<u32>),
 }
 
 // Along runs.
@@ -42,7 +41,7 @@ fn by_lists<L: Lists>(alloc: Global, counts: RunCounts, lists: &mut L) -> Result
     ensures pulled { IfOk result (λ p. pulled_graph p ≡ L.graph lists.old) }
 {
     let made = counts.list(alloc, lists)?;
-    Ok(Pulled::InLists(ListPulling::new(alloc, made)?))
+    Ok(Pulled::InLists(Pulling::new(alloc, made)?))
 }
 
 // What rounds go along beside the lists, if it fits.

@@ -10,8 +10,9 @@ use wg_io::MOST_BYTES;
 use wg_num::UNITS;
 use wg_params::Params;
 use wg_random::Records;
-use wg_rank::{Bounds, Gather, ListPulling, Pulling};
-use wg_rank::{MOST_ROUND_ROOM, PAGE_ROUND_ROOM, Way, way_for};
+use wg_rank::{
+    Bounds, Gather, MOST_ROUND_ROOM, PAGE_ROUND_ROOM, Pulling, Way, way_for,
+};
 use wg_stream::Sweep;
 use wg_transpose::RunCounts;
 use wg_vectors::{generate, usual};
@@ -58,7 +59,7 @@ fn two_rounds_along_in_lists(rt: HostRuntime) -> Result<(), Fail> {
     let graph = wg_arcs::read(rt.alloc(), ARCS, 5)?;
     let mut lists = GraphLists::new(&graph);
     let in_lists = RunCounts::of(rt.alloc(), &mut lists)?.list(rt.alloc(), &mut lists)?;
-    let mut pulling = ListPulling::new(rt.alloc(), in_lists)?;
+    let mut pulling = Pulling::new(rt.alloc(), in_lists)?;
     assert!(rt; pulling.nodes() == 5);
     has_worked_bounds(&rt, rt.alloc(), &mut pulling)
 }

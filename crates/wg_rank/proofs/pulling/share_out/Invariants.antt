@@ -7,10 +7,10 @@ use Rattle.wg_rank.proofs.Flow.{Dangling}
 use Rattle.wg_rank.proofs.pulling.share_out.Given as goal
 
 abbrev pub invariant-loop-u : goal.invariant-loop-u
-invariant-loop-u l = record {
-  each : (w : ℕ) → w < l.u → get_or l.sums w []
-      ≡ in_lanes (sum_below w) (given l.runs (low_share l.runs (by_page l.low))) (given l.runs (high_share l.runs (by_page l.high)));
-  total : l.total ≡ in_lanes (sum_below l.u) (given l.runs (low_share l.runs (by_page l.low))) (given l.runs (high_share l.runs (by_page l.high)));
-  low_rest : Dangling l.runs l.u (λ u. get_or l.low u 0) l.low_dangling;
-  high_rest : Dangling l.runs l.u (λ u. get_or l.high u 0) l.high_dangling;
+invariant-loop-u a l = record {
+  each : (w : ℕ) → w < l.u → get_or l.lanes w []
+      ≡ a.T.Along.lane (given l.arcs (low_share l.arcs (by_page l.low))) (given l.arcs (high_share l.arcs (by_page l.high))) w;
+  total : l.total ≡ in_lanes (sum_below l.u) (given l.arcs (low_share l.arcs (by_page l.low))) (given l.arcs (high_share l.arcs (by_page l.high)));
+  low_rest : Dangling l.arcs l.u (λ u. get_or l.low u 0) l.low_dangling;
+  high_rest : Dangling l.arcs l.u (λ u. get_or l.high u 0) l.high_dangling;
 }

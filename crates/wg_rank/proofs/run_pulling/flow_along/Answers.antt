@@ -1,6 +1,6 @@
 use Rattle.std.proofs.Common.{ℕ, ◌+◌, ◌*◌, ◌^◌, List, ap, ◌∙◌, arith, get_or}
 use Rattle.wg_rank.proofs.Runs.{ordered, flow_sum, flow_room, flow_joins}
-use Rattle.wg_rank.proofs.pulling.flow_along.Goals as goal
+use Rattle.wg_rank.proofs.run_pulling.flow_along.Goals as goal
 
 pub lanes_along-requires-clause-ordered : goal.lanes_along-requires-clause-ordered
 lanes_along-requires-clause-ordered c = ordered c.requires.summed.0 c.requires.summed.1 c.args.runs.now c.requires.summed.4

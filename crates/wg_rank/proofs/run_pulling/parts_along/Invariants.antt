@@ -2,7 +2,7 @@ use Rattle.std.proofs.Common.{ℕ, ◌≡◌, take}
 use Rattle.wg_rank.specs.Sum.{sum_below}
 use Rattle.wg_rank.specs.Lanes.{AreSummed}
 use Rattle.wg_rank.specs.Pulling.{along}
-use Rattle.wg_rank.proofs.pulling.parts_along.Given as goal
+use Rattle.wg_rank.proofs.run_pulling.parts_along.Given as goal
 
 abbrev pub invariant-loop-run : goal.invariant-loop-run
 invariant-loop-run l = record {

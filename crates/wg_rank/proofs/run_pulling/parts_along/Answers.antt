@@ -4,7 +4,7 @@ use Rattle.std.proofs.lemmas.List.Sums.{sum_by_more, sum_by_more_le}
 use Rattle.wg_transpose.specs.declared.run.PageRun.{PageRun}
 use Rattle.wg_rank.specs.Sum.{sum_below}
 use Rattle.wg_rank.specs.Pulling.{along}
-use Rattle.wg_rank.proofs.pulling.parts_along.Goals as goal
+use Rattle.wg_rank.proofs.run_pulling.parts_along.Goals as goal
 
 pub overflow_add-below : goal.overflow_add-below
 overflow_add-below c =

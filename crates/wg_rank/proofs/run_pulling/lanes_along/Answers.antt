@@ -7,7 +7,7 @@ use Rattle.wg_rank.specs.Sum.{sum_below}
 use Rattle.wg_rank.specs.Lanes.{in_lanes}
 use Rattle.wg_rank.specs.Pulling.{along}
 use Rattle.wg_rank.proofs.LaneSums.{lanes_same, lanes_sum, rise_lanes}
-use Rattle.wg_rank.proofs.pulling.lanes_along.Goals as goal
+use Rattle.wg_rank.proofs.run_pulling.lanes_along.Goals as goal
 
 pub loop-run-preserved : goal.loop-run-preserved
 loop-run-preserved c = λ n low high h.
