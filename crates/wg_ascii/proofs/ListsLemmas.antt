@@ -37,14 +37,6 @@ first_fault all after later first kind is fault =
 pub next_line : (line nodes : ℕ) → line ≤ nodes → nodes ≤ MOST_PAGES → Fits w64 (line + 1)
 next_line line nodes le few = omega (arith, le, few)
 
-pub few_arcs : (arcs : ℕ) (list part : List ℕ) → part ≡ list → arcs + length list ≤ MOST_ARCS
-    → arcs + length part ≤ MOST_ARCS
-few_arcs arcs list part same room = omega (arith, ap length same, room)
-
-pub next_arcs : (arcs : ℕ) (list part : List ℕ) → part ≡ list → arcs + length list ≤ MOST_ARCS
-    → Fits w64 (arcs + length part)
-next_arcs arcs list part same room = omega (arith, ap length same, room)
-
 -- ---- before the first page
 
 pub count_none : (lists : List (List ℕ)) (line : ℕ) → lists ≡ [] → line ≡ 1 → length lists + 1 ≡ line
@@ -93,18 +85,6 @@ shorter_yet a b all lt le = omega (arith, lt, le)
 pub few_lines : (line nodes first : ℕ) → line ≤ nodes + 1 → nodes ≡ first → first ≤ MOST_PAGES → line ≤ MOST_PAGES + 1
 few_lines line nodes first le is few = omega (arith, le, is, few)
 
-pub onward : (first line : ℕ) → first ≤ line → first ≤ line + 1
-onward first line le = omega (arith, le)
-
-pub over_yet : (nodes line : ℕ) → nodes < line → nodes < line + 1
-over_yet nodes line lt = omega (arith, lt)
-
 -- as many lines as bytes at most
 pub lines_done : (line left all : ℕ) → line + left ≤ all → line ≤ all
 lines_done line left all le = omega (arith, le)
-
-pub line_more : (line after left all : ℕ) → line + left ≤ all → after < left → line + 1 + after ≤ all
-line_more line after left all le lt = omega (arith, le, lt)
-
-pub line_fits : (line left all : ℕ) → line + left ≤ all → all < 2 ^ 64 → 0 < left → Fits w64 (line + 1)
-line_fits line left all le few some = omega (arith, le, few, some)

@@ -156,7 +156,7 @@ impl ListEncoder {
     // Goes on to the next page, with the list of this one written by the choice that was made. The draft and the
     // names are kept for the page after it.
     #[inline(always)]
-    fn go_on(mut self, list: &[u64], ready: Ready) -> Result<ListEncoder, AllocError>
+    fn next_page(mut self, list: &[u64], ready: Ready) -> Result<ListEncoder, AllocError>
         requires page { self.next.page < self.params.nodes }
         requires list { IsList self.params list.now }
         requires arcs { self.next.arcs_before + length list.now ≤ self.params.arcs }
@@ -212,7 +212,7 @@ impl ListEncoder {
         let ready = self.prepare(list, base)?;
         let begun = self.put_offset(depot, ready.names.offsets())?;
         let put = begun.put_record(ready.draft.record(), depot, ready.names.graph())?;
-        Ok(put.go_on(list, ready)?)
+        Ok(put.next_page(list, ready)?)
     }
 
     /// Puts the last word of the offsets, the length of the last record, and fills up both files to whole bytes. It

@@ -107,7 +107,7 @@ fn write_list<S: Sink>(
 }
 
 /// Prints the line of a page whose successors are listed.
-pub fn print_list<O: Sink>(
+pub fn print_listed<O: Sink>(
     lines: &mut Lines,
     out: &mut O,
     page: u64,
@@ -138,6 +138,6 @@ pub fn print_read<O: Sink>(
 {
     match read {
         Page::Opened(mut successors) => print_page(lines, out, page, &mut successors),
-        Page::Listed(list) => print_list(lines, out, page, list.as_slice()),
+        Page::Listed(list) => print_listed(lines, out, page, list.as_slice()),
     }
 }

@@ -70,7 +70,7 @@ impl Model for Samples {
 }
 
 // Keeps the place of a page, and the bit after its word, if the page is one of those.
-fn keep(
+fn keep_sample(
     places: &mut Vec<u64>,
     bits: &mut Vec<u64>,
     page: u64,
@@ -97,7 +97,7 @@ fn keep(
 }
 
 // Reads so many words more.
-fn go_on<S: Source>(
+fn read_more<S: Source>(
     words: &mut OffsetWords,
     more: u64,
     source: &mut S,
@@ -147,7 +147,7 @@ impl Samples {
         let mut bits = Vec::new(alloc);
         for page in 0..pages + 1 {
             let place = words.next(source)?;
-            keep(&mut places, &mut bits, page, place, source.at())?;
+            keep_sample(&mut places, &mut bits, page, place, source.at())?;
         }
         words.finish(source)?;
         Ok(Samples {
@@ -210,7 +210,7 @@ impl Samples {
             → IsSampleOf file self.now places → OnWord result (λ w. ⊥) }
     {
         let mut reading = self.words(page);
-        go_on(&mut reading, page % SAMPLED, source)?;
+        read_more(&mut reading, page % SAMPLED, source)?;
         let start = reading.offset();
         let end = reading.next(source)?;
         Ok(Extent { start, end })

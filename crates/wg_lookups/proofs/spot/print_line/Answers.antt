@@ -7,15 +7,15 @@ use Rattle.wg_outcomes.specs.declared.ending.Ending.{Ending}
 use Rattle.wg_outside.proofs.LoadLemmas.{risen}
 use Rattle.wg_lookups.proofs.spot.print_line.Goals as goal
 
-pub returns-in_err-print_list : goal.returns-in_err-print_list
-returns-in_err-print_list g c =
+pub returns-in_err-print_listed : goal.returns-in_err-print_listed
+returns-in_err-print_listed g c =
     let taken = g.O.Sink.taken in
     let line : List ℕ = successors_line c.args.page c.args.list.now in
-    let e = c.in_err-print_list.ensures in
+    let e = c.in_err-print_listed.ensures in
     rw (is_that_err c.from_residual.result _ c.from_residual.ensures.1) record {
       puts = λ t.
-          puts_of_less {E = Ending} (taken c.args.out.now) (taken c.print_list.new.out) line c.in_err-print_list.field-0.0
-          (subst (λ (l : List ℕ). HasPrintedLess (taken c.args.out.now) (taken c.print_list.new.out) l line)
+          puts_of_less {E = Ending} (taken c.args.out.now) (taken c.print_listed.new.out) line c.in_err-print_listed.field-0.0
+          (subst (λ (l : List ℕ). HasPrintedLess (taken c.args.out.now) (taken c.print_listed.new.out) l line)
           c.new-lines.ensures (e.prints t));
       only = e.refusals.only;
       failed = e.refusals.failed;
@@ -27,12 +27,12 @@ pub returns : goal.returns
 returns g c =
     let taken = g.O.Sink.taken in
     let line : List ℕ = successors_line c.args.page c.args.list.now in
-    let l = c.in_ok-print_list.ensures in
+    let l = c.in_ok-print_listed.ensures in
     let e = c.print_rest.ensures in
     record {
       puts = λ t.
-          puts_in_the_end (taken c.args.out.now) (taken c.print_list.new.out) (taken c.print_rest.new.out) line c.print_list.new.lines c.print_rest.result
-          (subst (λ (l : List ℕ). HasPrinted (taken c.args.out.now) (taken c.print_list.new.out) l line c.print_list.new.lines)
+          puts_in_the_end (taken c.args.out.now) (taken c.print_listed.new.out) (taken c.print_rest.new.out) line c.print_listed.new.lines c.print_rest.result
+          (subst (λ (l : List ℕ). HasPrinted (taken c.args.out.now) (taken c.print_listed.new.out) l line c.print_listed.new.lines)
           c.new-lines.ensures (l.prints t))
           (e.puts t);
       only = e.refusals.only;

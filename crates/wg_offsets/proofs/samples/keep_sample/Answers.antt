@@ -1,7 +1,7 @@
 use Rattle.std.proofs.Common.{◌≡◌, ◌*◌, length, arith}
 use Rattle.wg_offsets.specs.declared.samples.TheConstants.{SAMPLED}
 use Rattle.wg_offsets.proofs.SamplesLemmas.{samples_more}
-use Rattle.wg_offsets.proofs.samples.keep.Goals as goal
+use Rattle.wg_offsets.proofs.samples.keep_sample.Goals as goal
 
 pub returns-in_ok-push-2-clause-each : goal.returns-in_ok-push-2-clause-each
 returns-in_ok-push-2-clause-each c = λ code file before samples read.

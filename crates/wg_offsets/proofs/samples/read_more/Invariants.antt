@@ -1,6 +1,6 @@
 use Rattle.std.proofs.Common.{◌≡◌, ℕ, ◌+◌, Bool, List}
 use Rattle.wg_offsets.specs.Stages.{AreRead}
-use Rattle.wg_offsets.proofs.samples.go_on.Given as goal
+use Rattle.wg_offsets.proofs.samples.read_more.Given as goal
 
 -- if the source can tell its bits, the words that were read lead to some places
 abbrev pub invariant-loop-word : goal.invariant-loop-word

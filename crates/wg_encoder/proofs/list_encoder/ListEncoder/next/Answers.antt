@@ -58,15 +58,15 @@ returns-in_err-put g c =
       later = none_falls-trans _ _ _ first.sends.later sends.later;
     }
 
-pub returns-in_err-go_on : goal.returns-in_err-go_on
-returns-in_err-go_on g c =
+pub returns-in_err-next_page : goal.returns-in_err-next_page
+returns-in_err-next_page g c =
     let first = c.in_ok-begun.ensures in
     let second = c.in_ok-put.ensures in
     let offsets : c.offsets.result.now ≡ offsets_name c.args.base.now = c.offsets.ensures ∙ ap offsets_name (c.deref.ensures ∙ c.in_ok-ready.ensures.names) in
     let graph : c.graph.result.now ≡ graph_name c.args.base.now = c.graph.ensures ∙ ap graph_name (c.deref-3.ensures ∙ c.in_ok-ready.ensures.names) in
     let same = c.prepare.ensures.same in
     let made : IsMade c.args.self c.args.list.now c.in_ok-ready.ready.choice c.record.result.now = c.record.ensures ∙ c.deref-2.ensures ∙ c.in_ok-ready.ensures.record_is in
-    rw (is_that_err c.from_residual-in_err-go_on.result _ c.from_residual-in_err-go_on.ensures.1) record {
+    rw (is_that_err c.from_residual-in_err-next_page.result _ c.from_residual-in_err-next_page.ensures.1) record {
       on = tt;
       written = λ lists w. tt;
       ok = λ lists w t h. tt;
@@ -86,13 +86,13 @@ returns g c =
     let graph : c.graph.result.now ≡ graph_name c.args.base.now = c.graph.ensures ∙ ap graph_name (c.deref-3.ensures ∙ c.in_ok-ready.ensures.names) in
     let same = c.prepare.ensures.same in
     let made : IsMade c.args.self c.args.list.now c.in_ok-ready.ready.choice c.record.result.now = c.record.ensures ∙ c.deref-2.ensures ∙ c.in_ok-ready.ensures.record_is in
-    let on = next_on c.args.self c.in_ok-begun.begun c.in_ok-put.put c.in_ok-go_on.field-0 c.args.list.now (rw same at first.on) second.on c.in_ok-go_on.ensures in
+    let on = next_on c.args.self c.in_ok-begun.begun c.in_ok-put.put c.in_ok-next_page.field-0 c.args.list.now (rw same at first.on) second.on c.in_ok-next_page.ensures in
     record {
       on = on;
       written = λ lists written. subst (λ (e : Encoded). HasWritten e (lists ++ c.args.list.now ∷ [])) (sym on) (written_on c.args.self c.args.list.now _ _ lists written);
       ok = λ lists written t h.
           let put = word_put _ _ c.args.base.now _ c.args.self _ _ same offsets (first.sends.ok t) in
-          next_gone _ _ _ c.args.base.now c.args.self c.in_ok-begun.begun c.in_ok-put.put c.in_ok-go_on.field-0 lists c.args.list.now c.in_ok-ready.ready.choice c.record.result.now c.in_ok-ready.ensures.chosen made (rw same at first.on) second.on c.in_ok-go_on.ensures
+          next_gone _ _ _ c.args.base.now c.args.self c.in_ok-begun.begun c.in_ok-put.put c.in_ok-next_page.field-0 lists c.args.list.now c.in_ok-ready.ready.choice c.record.result.now c.in_ok-ready.ensures.chosen made (rw same at first.on) second.on c.in_ok-next_page.ensures
           put (rw graph at (second.sends.ok t)) written h;
       err = λ lists more w t h. tt;
       only_two = λ t name other also. other_put _ _ _ name _ _ _ (rw graph at (second.sends.ok t)) other ∙ other_put _ _ _ name _ _ _ (rw offsets at (first.sends.ok t)) also;

@@ -4,7 +4,7 @@ use Rattle.wg_greedy.specs.Laws.{IsList}
 use Rattle.wg_encoder.specs.Encoding.{Encoded}
 use Rattle.wg_encoder.proofs.Going.{ones_few, serves_on}
 use Rattle.wg_encoder.proofs.Chosen.{chosen_reach, stays_few_at}
-use Rattle.wg_encoder.proofs.list_encoder.ListEncoder.go_on.Goals as goal
+use Rattle.wg_encoder.proofs.list_encoder.ListEncoder.next_page.Goals as goal
 
 pub depth-depth-requires : goal.depth-depth-requires
 depth-depth-requires c = chosen_reach c.args.self.params c.args.self.next c.args.list.now c.args.ready.choice c.requires.chosen

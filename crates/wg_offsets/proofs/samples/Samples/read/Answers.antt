@@ -23,7 +23,7 @@ pub loop-page-preserved : goal.loop-page-preserved
 loop-page-preserved g c =
     let i = c.loop-page.invariant in
     let n = c.in_ok-place.ensures in
-    let k = c.in_ok-keep.ensures in
+    let k = c.in_ok-keep_sample.ensures in
     let w = c.next.new.self in
     record {
       code = n.code ∙ i.code;
@@ -41,9 +41,9 @@ loop-page-preserved g c =
           k.each c.args.code file (a.0 ++ w.offset ∷ []) (i.samples file r) (read_as _ _ file _ _ _ _ _ _ _ (n.code ∙ i.code) count (sym c.at.ensures.value) (sym n.value) all);
     }
 
-pub returns-in_err-keep : goal.returns-in_err-keep
-returns-in_err-keep g c =
-    rw (is_that_err c.from_residual-in_err-keep.result _ c.from_residual-in_err-keep.ensures.1) record {
+pub returns-in_err-keep_sample : goal.returns-in_err-keep_sample
+returns-in_err-keep_sample g c =
+    rw (is_that_err c.from_residual-in_err-keep_sample.result _ c.from_residual-in_err-keep_sample.ensures.1) record {
       pages = tt;
       code = tt;
       later = g.met.S.Source.goes_on _ _ _ c.loop-page.invariant.later c.in_ok-place.ensures.later;
