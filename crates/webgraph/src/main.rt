@@ -29,20 +29,18 @@ fn words(rt: &HostRuntime) -> Result<Words, Status> {
 }
 
 // Runs the job of the words. If there are none, it says on standard error why.
-fn status(rt: &HostRuntime) -> Status {
+fn main(rt: HostRuntime) -> ExitCode {
     let mut err = StdSink::new(rt.stderr());
-    let words = match words(rt) {
-        Ok(words) => words,
+    let status = match words(&rt) {
+        Ok(words) => {
+            let mut depot = FolderDepot::new(&rt);
+            let mut out = StdSink::new(rt.stdout());
+            run(rt.alloc(), &words, &mut depot, &mut out, &mut err)
+        }
         Err(status) => {
             report(&mut err, &None, 0, status);
-            return status;
+            status
         }
     };
-    let mut depot = FolderDepot::new(rt);
-    let mut out = StdSink::new(rt.stdout());
-    run(rt.alloc(), &words, &mut depot, &mut out, &mut err)
-}
-
-fn main(rt: HostRuntime) -> ExitCode {
-    ExitCode::from(status(&rt).code())
+    ExitCode::from(status.code())
 }

@@ -1,8 +1,7 @@
 ghost use Rattle.std.specs.Prelude.{◌≡◌, false, IsTrue};
 ghost use Rattle.wg_words.specs.Jobs.{IsWithin};
 ghost use Rattle.wg_outcomes.specs.Answers.{status_in};
-ghost use Rattle.wg_outcomes.specs.Promised.{promised_in};
-ghost use Rattle.wg_outcomes.specs.Performs.{Does, DoesOrEnds};
+ghost use Rattle.wg_outcomes.specs.Performs.{DoesOrEnds};
 ghost use Rattle.wg_outcomes.specs.Untold.{DoesAnywhere};
 ghost use Rattle.wg_cli.specs.Wanted.{calls_depot, writes_archive};
 
@@ -12,7 +11,7 @@ use wg_builds::bulk::bulk;
 use wg_builds::import::import;
 use wg_lookups::show::show;
 use wg_lookups::spot::spot;
-use wg_outcomes::{Ending, Status};
+use wg_outcomes::Ending;
 use wg_outside::{Depot, Sink};
 use wg_queries::check::check;
 use wg_queries::printing::{Listing, print_records};
@@ -24,32 +23,8 @@ use wg_transforms::transpose::transpose;
 use wg_transforms::union::union;
 use wg_words::Job;
 
-// How what was done or has ended is reported.
-fn as_ending(done: Result<(), Ending>) -> Ending
-    ensures status { result.status ≡ status_in done }
-    ensures promised { result.promised ≡ promised_in done }
-{
-    match done {
-        Ok(()) => Ending::of(Status::Done),
-        Err(ending) => ending,
-    }
-}
-
-/// Does the job, and says how it ended.
-pub fn perform<D: Depot, O: Sink>(alloc: Global, job: &Job, depot: &mut D, out: &mut O) -> Ending
-    requires { IsWithin job.now }
-    ensures does { Does ⟦<D as Depot>⟧ ⟦<O as Sink>⟧ job.now depot.old depot.new out.old out.new result.status
-        result.promised }
-    ensures later { O.later out.old out.new }
-    ensures anywhere { DoesAnywhere ⟦<D as Depot>⟧ ⟦<O as Sink>⟧ job.now depot.old depot.new out.old out.new
-        result.status }
-    ensures untouched { calls_depot job.now ≡ false → depot.new ≡ depot.old }
-{
-    as_ending(do_job(alloc, job, depot, out))
-}
-
-// Does the job by the function of its command.
-fn do_job<D: Depot, O: Sink>(
+/// Does the job by the function of its command.
+pub fn perform<D: Depot, O: Sink>(
     alloc: Global,
     job: &Job,
     depot: &mut D,
@@ -89,12 +64,12 @@ fn do_job<D: Depot, O: Sink>(
             weights,
         } => verify(alloc, base, certificate, weights, depot, out),
         Job::Bulk { seed, pages } => bulk(alloc, *seed, *pages, out),
-        _ => do_archive_job(alloc, job, depot, out),
+        _ => perform_archive_job(alloc, job, depot, out),
     }
 }
 
 // Does a job that writes an archive.
-fn do_archive_job<D: Depot, O: Sink>(
+fn perform_archive_job<D: Depot, O: Sink>(
     alloc: Global,
     job: &Job,
     depot: &mut D,

@@ -4,7 +4,7 @@ ghost use Rattle.wg_outside.specs.declared.output.Output.{Output};
 ghost use Rattle.wg_words.specs.Jobs.{job_of, IsWithin};
 ghost use Rattle.wg_words.specs.declared.jobs.Job.{Job};
 ghost use Rattle.wg_outcomes.specs.Reached.{Reaches};
-ghost use Rattle.wg_outcomes.specs.Answers.{Answers, HasOutput, IsHindrance, IsPutLast, IsUnprinted};
+ghost use Rattle.wg_outcomes.specs.Answers.{Answers, HasOutput, IsHindrance, IsPutLast, IsUnprinted, status_in};
 ghost use Rattle.wg_outcomes.specs.Causes.{AreFaultless, HasCause};
 ghost use Rattle.wg_outcomes.specs.Commands.{written_by};
 ghost use Rattle.wg_outcomes.specs.Judged.{output_of, status_of};
@@ -12,6 +12,7 @@ ghost use Rattle.wg_cli.specs.Lines.{line_of, Reports};
 ghost use Rattle.wg_cli.specs.Wanted.{some_calls_depot, some_writes_files, ArePromisedBy};
 ghost use Rattle.wg_outcomes.specs.JobFiles.{can_end, held_for, input_name, output_name, prints_in_parts, prints_while_reading};
 ghost use Rattle.wg_outcomes.specs.Performs.{judged_on, Does};
+ghost use Rattle.wg_outcomes.specs.Promised.{promised_in};
 ghost use Rattle.wg_outcomes.specs.Bulk.{PrintsProvenOutcome};
 ghost use Rattle.wg_outcomes.specs.Ranked.{PrintsProvenRanking};
 ghost use Rattle.wg_outcomes.specs.Untold.{DoesAnywhere, PrintsSomeGap, PrintsSomeRanking, WantsFirst};
@@ -151,6 +152,17 @@ fn find_job(alloc: Global, words: &Words) -> Result<Option<Job>, AllocError>
     }
 }
 
+// How what was done or has ended is reported.
+fn as_ending(done: Result<(), Ending>) -> Ending
+    ensures status { result.status ≡ status_in done }
+    ensures promised { result.promised ≡ promised_in done }
+{
+    match done {
+        Ok(()) => Ending::of(Status::Done),
+        Err(ending) => ending,
+    }
+}
+
 // Does the job, if there is one.
 fn try_job<D: Depot, O: Sink>(
     alloc: Global,
@@ -174,6 +186,6 @@ fn try_job<D: Depot, O: Sink>(
 {
     match wanted {
         None => Ending::of(Status::Usage),
-        Some(job) => perform(alloc, job, depot, out),
+        Some(job) => as_ending(perform(alloc, job, depot, out)),
     }
 }

@@ -1,7 +1,7 @@
 use Rattle.std.proofs.Common.{refl}
 use Rattle.wg_outcomes.proofs.PerformsLemmas.{does_at}
 use Rattle.wg_cli.proofs.ArchiveJobs.{none_left}
-use Rattle.wg_cli.proofs.dispatch.do_archive_job.Goals as goal
+use Rattle.wg_cli.proofs.dispatch.perform_archive_job.Goals as goal
 
 pub returns-in-Build : goal.returns-in-Build
 returns-in-Build g c = does_at _ _ _ _ _ _ _ _ _ c.in-Build.is c.build.ensures
