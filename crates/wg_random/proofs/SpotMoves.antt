@@ -15,27 +15,13 @@ use Rattle.wg_grammar.specs.declared.need.Need.TheVariants as need
 use Rattle.wg_grammar.specs.Context.{Known, Context, no_page, referenced, depth_of}
 use Rattle.wg_grammar.specs.SoFar.{SoFar, nothing_yet, after, value_or_0, source}
 use Rattle.wg_grammar.specs.Next.{next}
-use Rattle.wg_grammar.specs.Refusal.{refusal}
+use Rattle.wg_grammar.specs.Refusal.{refusal, passes}
 use Rattle.wg_grammar.specs.Members.{list_of, is_covered}
 use Rattle.wg_grammar.specs.Record.{Whole, Stands, Fields, ReadsRecord}
 use Rattle.wg_decoder.specs.Apart.{of_outdegree, page_over, HeadStands}
 use Rattle.wg_decoder.proofs.HeadLemmas.{outdegree_due, reference_due, no_reference_stands}
-use Rattle.wg_decoder.proofs.ProperLemmas.Transfer.{fields_keep, fields_near}
+use Rattle.wg_decoder.proofs.ProperLemmas.Transfer.{Keeps, fields_keep, fields_near, read_reference, same_refusal, same_next, same_list, fields_same}
 use Rattle.wg_decoder.specs.Chains.{endless}
-
--- ---- a reference that stays, and the tests that it passes
-
-abbrev Keeps : SoFar → SoFar → Type 0
-Keeps s t = (s.reference ≡ None) ⊎ (s.reference ≡ t.reference)
-
-first_reason : (k : Kind) (b e : Bool) → cond b (Some kind.Range) (cond e (Some k) None) ≡ None → b ≡ false
-first_reason k true e h = absurd cc
-first_reason k false e h = refl
-
-second_reason : (k : Kind) (b e : Bool) → cond b (Some kind.Range) (cond e (Some k) None) ≡ None → e ≡ false
-second_reason k true e h = absurd cc
-second_reason k false true h = absurd cc
-second_reason k false false h = refl
 
 -- ---- the same fields, over the page below
 
@@ -43,86 +29,6 @@ second_reason k false false h = refl
 record Same (p : Parameters) (c : Context) (k : Known) (r : ℕ) : Type 0 where
   list : referenced c.behind r ≡ referenced (replicate p.window k) r
   depth : depth_of c.behind r ≡ depth_of (replicate p.window k) r
-
-abbrev over : Parameters → Context → Known → Context
-over p c k = page_over p c.page k
-
-same_after : (p : Parameters) (c : Context) (k : Known) (s : SoFar) (f : Field) (v : ℕ) → after p c s f v ≡ after p (over p c k) s f v
-unfolding after
-same_after p c k s field.Outdegree v = refl
-same_after p c k s field.Reference v = refl
-same_after p c k s field.BlockCount v = refl
-same_after p c k s field.Block v = refl
-same_after p c k s field.Copied v = refl
-same_after p c k s field.IntervalCount v = refl
-same_after p c k s field.Left v = refl
-same_after p c k s field.Length v = refl
-same_after p c k s field.Residual v = refl
-same_after p c k s field.Record v = refl
-
-abbrev SameSource : Parameters → Context → Known → SoFar → Type 0
-SameSource p c k s = source c s ≡ source (over p c k) s
-
-same_next : (p : Parameters) (c : Context) (k : Known) (s : SoFar) → SameSource p c k s → next p c s ≡ next p (over p c k) s
-unfolding next
-same_next p c k s e = rw e refl
-
-pub outdegree_fine : (nodes arcs v before : ℕ) → cond (ltb nodes v) (Some kind.Range) (cond (ltb arcs (before + v)) (Some kind.Total) None) ≡ None → cond (ltb nodes v) (Some kind.Range) (cond (ltb arcs (0 + v)) (Some kind.Total) None) ≡ None
-outdegree_fine nodes arcs v before fine =
-    let low : ltb nodes v ≡ false = first_reason kind.Total (ltb nodes v) (ltb arcs (before + v)) fine in
-    let few : before + v ≤ arcs = ltb-false arcs (before + v) (second_reason kind.Total (ltb nodes v) (ltb arcs (before + v)) fine) in
-    rw (low, le-ltb arcs (0 + v) (omega (arith, few))) refl
-
-same_refusal : (p : Parameters) (c : Context) (k : Known) (s : SoFar) (f : Field) (v : ℕ) → SameSource p c k s → (f ≡ field.Reference → depth_of c.behind v ≡ depth_of (replicate p.window k) v) → refusal p c s f v ≡ None → refusal p (over p c k) s f v ≡ None
-unfolding refusal
-same_refusal p c k s field.Outdegree v e deep fine = outdegree_fine p.nodes p.arcs v c.arcs_before fine
-same_refusal p c k s field.Reference v e deep fine = rw (← deep refl) fine
-same_refusal p c k s field.BlockCount v e deep fine = rw (← e) fine
-same_refusal p c k s field.Block v e deep fine = rw (← e) fine
-same_refusal p c k s field.Copied v e deep fine = rw (← e) fine
-same_refusal p c k s field.IntervalCount v e deep fine = rw (← e) fine
-same_refusal p c k s field.Left v e deep fine = fine
-same_refusal p c k s field.Length v e deep fine = rw (← e) fine
-same_refusal p c k s field.Residual v e deep fine = fine
-same_refusal p c k s field.Record v e deep fine = refl
-
--- a reference that was just read
-read_reference : (p : Parameters) (c : Context) (s : SoFar) (f : Field) (v : ℕ) → f ≡ field.Reference → (after p c s f v).reference ≡ Some v
-unfolding after
-read_reference p c s f v e = rw e refl
-
-stands_same : (m : Need) (p : Parameters) (c : Context) (k : Known) (r : ℕ) (bits : List Bool) (s : SoFar) (at v mid : ℕ) (u : SoFar) → Same p c k r → SameSource p c k s → (u.reference ≡ None) ⊎ (value_or_0 u.reference ≡ r)
-    → Stands m p c bits s at v mid u → Stands m p (over p c k) bits s at v mid u
-stands_same (need.Read f code) p c k r bits s at v mid u same e ends x =
-    (x.0, x.1, same_refusal p c k s f v e (λ is. deep_of (ap (λ (y : SoFar). y.reference) x.3 ∙ read_reference p c s f v is) ends) x.2, x.3 ∙ same_after p c k s f v)
-  where
-    deep_of : u.reference ≡ Some v → (u.reference ≡ None) ⊎ (value_or_0 u.reference ≡ r) → depth_of c.behind v ≡ depth_of (replicate p.window k) v
-    deep_of is (inl none) = absurd (let bad : Some v ≡ None = sym is ∙ none in cc)
-    deep_of is (inr same_r) =
-        let v_is : r ≡ v = sym same_r ∙ ap value_or_0 is in
-        subst (λ (n : ℕ). depth_of c.behind n ≡ depth_of (replicate p.window k) n) v_is same.depth
-stands_same need.Check p c k r bits s at v mid u same e ends x =
-    (x.0, x.1, same_refusal p c k s field.Copied v e (λ is. absurd cc) x.2, x.3 ∙ same_after p c k s field.Copied v)
-stands_same need.End p c k r bits s at v mid u same e ends x = x
-
-same_source : (p : Parameters) (c : Context) (k : Known) (s t : SoFar) → Keeps s t → SameSource p c k t → SameSource p c k s
-same_source p c k s t (inl none) e = ap (λ (o : Option ℕ). referenced c.behind (value_or_0 o)) none ∙ sym (ap (λ (o : Option ℕ). referenced (replicate p.window k) (value_or_0 o)) none)
-same_source p c k s t (inr same) e = ap (λ (o : Option ℕ). referenced c.behind (value_or_0 o)) same ∙ e ∙ sym (ap (λ (o : Option ℕ). referenced (replicate p.window k) (value_or_0 o)) same)
-
-ends_so : (u t : SoFar) (r : ℕ) → Keeps u t → value_or_0 t.reference ≡ r → (u.reference ≡ None) ⊎ (value_or_0 u.reference ≡ r)
-ends_so u t r (inl none) e = inl none
-ends_so u t r (inr same) e = inr (ap value_or_0 same ∙ e)
-
-fields_same : (p : Parameters) (c : Context) (k : Known) (r : ℕ) (bits : List Bool) (s : SoFar) (at : ℕ) (vs : List ℕ) (t : SoFar) (end : ℕ) → Same p c k r → value_or_0 t.reference ≡ r → SameSource p c k t → Fields p c bits s at vs t end → Fields p (over p c k) bits s at vs t end
-fields_same p c k r bits s at [] t end same is e h = h
-fields_same p c k r bits s at (v ∷ vs) t end same is e h =
-    let here : SameSource p c k s = same_source p c k s t (fields_keep p c bits s at (v ∷ vs) t end h) e in
-    let ends = ends_so h.0 t r (fields_keep p c bits h.0 h.1 vs t end h.3) is in
-    (h.0, h.1, subst (λ (m : Need). Stands m p (over p c k) bits s at v h.1 h.0) (same_next p c k s here) (stands_same (next p c s) p c k r bits s at v h.1 h.0 same here ends h.2), fields_same p c k r bits h.0 h.1 vs t end same is e h.3)
-
-same_list : (p : Parameters) (c : Context) (k : Known) (s : SoFar) → SameSource p c k s → list_of p c s ≡ list_of p (over p c k) s
-unfolding list_of
-same_list p c k s e = ap (λ (xs : List ℕ). numbers_where (λ y. is_in y (copied_members s.blocks xs) || is_covered s.lefts s.lengths y || is_in y s.residuals) 0 p.nodes) e
 
 -- the page that a reference names
 unfoldable pub named_page : Context → ℕ → Known
@@ -150,8 +56,7 @@ abbrev Head : Parameters → Context → List Bool → ℕ → ℕ → Type 0
 Head p c bits at r = (d : ℕ) × (end : ℕ) × HeadStands (endless p) (page_over p c.page no_page) bits at d r end
 
 out_fine : (p : Parameters) (c : Context) (d : ℕ) → refusal p c nothing_yet field.Outdegree d ≡ None → refusal (endless p) (page_over p c.page no_page) nothing_yet field.Outdegree d ≡ None
-unfolding refusal
-out_fine p c d fine = outdegree_fine p.nodes p.arcs d c.arcs_before fine
+out_fine p c d fine = same_refusal p c None p.arcs (replicate p.window no_page) (λ v few total. omega (arith, total)) nothing_yet field.Outdegree d refl (λ is. absurd cc) fine
 
 reference_fine : (p : Parameters) (c : Context) (d r : ℕ) → r ≤ min p.window c.page → refusal (endless p) (page_over p c.page no_page) (of_outdegree d) field.Reference r ≡ None
 unfolding refusal
@@ -224,7 +129,9 @@ apart_of p c bits at w h =
     let near : r ≤ min p.window c.page = fields_near p c bits nothing_yet at h.0 t h.2 h.3 (omega arith) in
     let k = named_page c r in
     let same = names_same p c r (omega (arith, near)) in
-    let e : SameSource p c k t = same.list in
+    let others = replicate p.window k in
+    let e : source c t ≡ source (page_over p c.page k) t = same.list in
+    let all = same_list p c p.chain p.arcs others t e in
     record {
       r = r;
       near = near;
@@ -233,8 +140,8 @@ apart_of p c bits at w h =
         h.0,
         t,
         h.2,
-        fields_same p c k r bits nothing_yet at h.0 t h.2 same refl e h.3,
-        (sym (same_next p c k t e) ∙ h.4.0, ap (λ (l : List ℕ). length l) (sym (same_list p c k t e)) ∙ h.4.1, h.4.2 ∙ same_list p c k t e, h.4.3 ∙ same.depth, h.4.4),
+        fields_same p c p.chain p.arcs others (λ v few total. omega (arith, total)) r bits nothing_yet at h.0 t h.2 (subst (λ (n : ℕ). passes p.chain n ≡ false) same.depth) refl e h.3,
+        (sym (same_next p c p.chain p.arcs others t e) ∙ h.4.0, ap (λ (l : List ℕ). length l) (sym all) ∙ h.4.1, h.4.2 ∙ all, h.4.3 ∙ same.depth, h.4.4),
       );
       head = head_of p c bits at h.0 t h.2 h.3 h.4.0 near;
     }
