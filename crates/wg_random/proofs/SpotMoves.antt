@@ -1,6 +1,6 @@
 -- A record that was read among the others is the same on its own, over the page that it refers to.
 use Rattle.std.proofs.Common.{◌≡◌, ◌⊎◌, ◌∙◌, ℕ, zero, suc, ◌+◌, ◌<◌, ◌≤◌, min, Bool, true, false, cond, ltb, ◌||◌, inl, inr, List, [], ◌∷◌, length, replicate, Option, Some, None, Ok, refl, sym, ap, subst, arith}
-use Rattle.std.proofs.lemmas.Bool.{le-ltb, ltb-false, cases_lt}
+use Rattle.std.proofs.lemmas.Bool.{le-ltb, cases_lt, cases_eq}
 use Rattle.std.proofs.lemmas.List.{get_or-replicate}
 use Rattle.std.specs.Prelude.{get_or}
 use Rattle.wg_params.specs.Parameters.{Parameters}
@@ -18,9 +18,12 @@ use Rattle.wg_grammar.specs.Next.{next}
 use Rattle.wg_grammar.specs.Refusal.{refusal, passes}
 use Rattle.wg_grammar.specs.Members.{list_of, is_covered}
 use Rattle.wg_grammar.specs.Record.{Whole, Stands, Fields, ReadsRecord}
-use Rattle.wg_decoder.specs.Apart.{of_outdegree, page_over, HeadStands}
+use Rattle.wg_decoder.specs.Apart.{of_outdegree, page_over, OutdegreeStands, HeadStands}
+use Rattle.wg_decoder.specs.Stages.Leading.{LeadsTo}
+use Rattle.wg_decoder.proofs.ProperLemmas.Going.{step_of, stop_of}
+use Rattle.wg_decoder.proofs.WholeLemmas.{empty_due}
 use Rattle.wg_decoder.proofs.HeadLemmas.{outdegree_due, reference_due, no_reference_stands}
-use Rattle.wg_decoder.proofs.ProperLemmas.Transfer.{Keeps, fields_keep, fields_near, read_reference, same_refusal, same_next, same_list, fields_same}
+use Rattle.wg_decoder.proofs.ProperLemmas.Transfer.{fields_keep, fields_near, same_refusal, same_next, same_list, fields_same}
 use Rattle.wg_decoder.specs.Chains.{endless}
 
 -- ---- the same fields, over the page below
@@ -55,72 +58,40 @@ pub record Apart (p : Parameters) (c : Context) (bits : List Bool) (at : ℕ) (w
 abbrev Head : Parameters → Context → List Bool → ℕ → ℕ → Type 0
 Head p c bits at r = (d : ℕ) × (end : ℕ) × HeadStands (endless p) (page_over p c.page no_page) bits at d r end
 
-out_fine : (p : Parameters) (c : Context) (d : ℕ) → refusal p c nothing_yet field.Outdegree d ≡ None → refusal (endless p) (page_over p c.page no_page) nothing_yet field.Outdegree d ≡ None
-out_fine p c d fine = same_refusal p c None p.arcs (replicate p.window no_page) (λ v few total. omega (arith, total)) nothing_yet field.Outdegree d refl (λ is. absurd cc) fine
+out_stands : (p : Parameters) (c : Context) (bits : List Bool) (at d mid : ℕ) → OutdegreeStands p c bits at d mid → OutdegreeStands (endless p) (page_over p c.page no_page) bits at d mid
+out_stands p c bits at d mid h =
+    (h.0, h.1, same_refusal p c None p.arcs (replicate p.window no_page) (λ v few total. omega (arith, total)) nothing_yet field.Outdegree d refl (λ is. absurd cc) h.2, h.3)
 
 reference_fine : (p : Parameters) (c : Context) (d r : ℕ) → r ≤ min p.window c.page → refusal (endless p) (page_over p c.page no_page) (of_outdegree d) field.Reference r ≡ None
 unfolding refusal
 reference_fine p c d r near = rw (le-ltb (min p.window c.page) r near) refl
 
-after_is : (p : Parameters) (c : Context) (d : ℕ) → of_outdegree d ≡ after p c nothing_yet field.Outdegree d
+kept : (v : ℕ) (o p : Option ℕ) → o ≡ Some v → (o ≡ None) ⊎ (o ≡ p) → v ≡ value_or_0 p
+kept v o p is (inl none) = absurd (let bad : Some v ≡ None = sym is ∙ none in cc)
+kept v o p is (inr same) = ap value_or_0 (sym is ∙ same)
+
+head_of : (p : Parameters) (c : Context) (bits : List Bool) (at : ℕ) (t : SoFar) (end : ℕ) → next p c t ≡ need.End → value_or_0 t.reference ≤ min p.window c.page → LeadsTo p c bits nothing_yet at t end → Head p c bits at (value_or_0 t.reference)
 unfolding after
-after_is p c d = refl
-
-abbrev FirstStands : Parameters → Context → List Bool → ℕ → ℕ → ℕ → SoFar → Type 0
-FirstStands p c bits at d mid u = Stands (need.Read field.Outdegree p.outdegrees) p c bits nothing_yet at d mid u
-
--- after the outdegree
-head_after : (p : Parameters) (c : Context) (bits : List Bool) (at d mid : ℕ) (vs : List ℕ) (t : SoFar) (end : ℕ) → FirstStands p c bits at d mid (of_outdegree d) → Fields p c bits (of_outdegree d) mid vs t end → next p c t ≡ need.End
-    → value_or_0 t.reference ≤ min p.window c.page → (0 < d) × (0 < p.window) ⊎ (((d ≡ 0) ⊎ (p.window ≡ 0)) × (value_or_0 t.reference ≡ 0)) → Head p c bits at (value_or_0 t.reference)
-head_after p c bits at d mid [] t end h fields done near (inl some) =
-    absurd (let bad : need.Read field.Reference p.references ≡ need.End = sym (reference_due p c d some.0 some.1) ∙ ap (next p c) (sym fields.0) ∙ done in cc)
-head_after p c bits at d mid (v ∷ vs) t end h fields done near (inl some) =
-    let due = reference_due p c d some.0 some.1 in
-    let stands : Stands (need.Read field.Reference p.references) p c bits (of_outdegree d) mid v fields.1 fields.0 = subst (λ (m : Need). Stands m p c bits (of_outdegree d) mid v fields.1 fields.0) due fields.2 in
-    let read : fields.0.reference ≡ Some v = ap (λ (s : SoFar). s.reference) stands.3 ∙ read_reference p c (of_outdegree d) field.Reference v refl in
-    let same : v ≡ value_or_0 t.reference = kept v fields.0 t read (fields_keep p c bits fields.0 fields.1 vs t end fields.3) in
+head_of p c bits at t end ends near on =
+    let f = step_of p c bits nothing_yet at field.Outdegree p.outdegrees t end (outdegree_due p c) ends on in
     let q = endless p in
     let here = page_over p c.page no_page in
-    let near_v : v ≤ min p.window c.page = omega (arith, same, near) in
-    let all : HeadStands q here bits at d v fields.1 =
-    (mid, (h.0, h.1, out_fine p c d h.2, after_is q here d), inl (reference_due q here d some.0 some.1, (stands.0, stands.1, reference_fine p c d v near_v, refl))) in
-    (d, fields.1, subst (λ (n : ℕ). HeadStands q here bits at d n fields.1) same all)
-  where
-    kept : (v : ℕ) (u t : SoFar) → u.reference ≡ Some v → Keeps u t → v ≡ value_or_0 t.reference
-    kept v u t is (inl none) = absurd (let bad : Some v ≡ None = sym is ∙ none in cc)
-    kept v u t is (inr same) = ap value_or_0 (sym is ∙ same)
-head_after p c bits at d mid vs t end h fields done near (inr none) =
-    let q = endless p in
-    let here = page_over p c.page no_page in
-    let all : HeadStands q here bits at d 0 mid = (mid, (h.0, h.1, out_fine p c d h.2, after_is q here d), no_reference_stands q here bits d mid none.0) in
-    (d, mid, subst (λ (n : ℕ). HeadStands q here bits at d n mid) (sym none.1) all)
-
--- whether a reference comes
-no_more : (p : Parameters) (c : Context) → next p c (of_outdegree 0) ≡ need.End
-unfolding next
-no_more p c = refl
-
-ends_empty : (p : Parameters) (c : Context) (bits : List Bool) (mid : ℕ) (vs : List ℕ) (t : SoFar) (end : ℕ) → Fields p c bits (of_outdegree 0) mid vs t end → value_or_0 t.reference ≡ 0
-ends_empty p c bits mid [] t end h = ap (λ (s : SoFar). value_or_0 s.reference) h.0
-ends_empty p c bits mid (v ∷ vs) t end h = absurd (subst (λ (m : Need). Stands m p c bits (of_outdegree 0) mid v h.1 h.0) (no_more p c) h.2)
-
-which : (p : Parameters) (c : Context) (bits : List Bool) (d mid : ℕ) (vs : List ℕ) (t : SoFar) (end : ℕ) → Fields p c bits (of_outdegree d) mid vs t end → value_or_0 t.reference ≤ min p.window c.page
-    → (0 < d) × (0 < p.window) ⊎ (((d ≡ 0) ⊎ (p.window ≡ 0)) × (value_or_0 t.reference ≡ 0))
-which p c bits zero mid vs t end h near = inr (inl refl, ends_empty p c bits mid vs t end h)
-which p c bits (suc d) mid vs t end h near =
-    elim (cases_lt 0 p.window) [
-      | inl window ↦ inl ((let some : 0 < suc d = omega arith in some), window)
-      | inr none ↦ inr (inr (let zero_window : p.window ≡ 0 = omega (arith, none) in zero_window), (let nothing : value_or_0 t.reference ≡ 0 = omega (arith, near, none) in nothing))
+    let out : OutdegreeStands q here bits at f.v f.mid = out_stands p c bits at f.v f.mid f.whole in
+    let none : (f.v ≡ 0) ⊎ (p.window ≡ 0) → value_or_0 t.reference ≡ 0 → Head p c bits at (value_or_0 t.reference) =
+    λ why is. (f.v, f.mid, subst (λ (n : ℕ). HeadStands q here bits at f.v n f.mid) (sym is) (f.mid, out, no_reference_stands q here bits f.v f.mid why)) in
+    elim (cases_eq f.v 0) [
+      | inl empty ↦ none (inl empty) (ap (λ (s : SoFar). value_or_0 s.reference) (stop_of p c bits (of_outdegree f.v) f.mid t end (empty_due p c f.v empty) f.on))
+      | inr some ↦ elim (cases_lt 0 p.window) [
+        | inr no_window ↦ none (inr (omega (arith, no_window))) (omega (arith, near, no_window))
+        | inl window ↦
+            let above : 0 < f.v = omega (arith, some) in
+            let g = step_of p c bits (of_outdegree f.v) f.mid field.Reference p.references t end (reference_due p c f.v above window) ends f.on in
+            let same : g.v ≡ value_or_0 t.reference = kept g.v (Some g.v) t.reference refl (fields_keep p c bits (after p c (of_outdegree f.v) field.Reference g.v) g.mid g.on.0 t end g.on.1) in
+            let all : HeadStands q here bits at f.v g.v g.mid =
+            (f.mid, out, inl (reference_due q here f.v above window, (g.whole.0, g.whole.1, reference_fine p c f.v g.v (omega (arith, same, near)), refl))) in
+            (f.v, g.mid, subst (λ (n : ℕ). HeadStands q here bits at f.v n g.mid) same all)
+      ]
     ]
-
-head_of : (p : Parameters) (c : Context) (bits : List Bool) (at : ℕ) (vs : List ℕ) (t : SoFar) (end : ℕ) → Fields p c bits nothing_yet at vs t end → next p c t ≡ need.End → value_or_0 t.reference ≤ min p.window c.page → Head p c bits at (value_or_0 t.reference)
-head_of p c bits at [] t end h done near = absurd (let bad : need.Read field.Outdegree p.outdegrees ≡ need.End = sym (outdegree_due p c) ∙ ap (next p c) (sym h.0) ∙ done in cc)
-head_of p c bits at (d ∷ vs) t end h done near =
-    let x : FirstStands p c bits at d h.1 h.0 = subst (λ (m : Need). Stands m p c bits nothing_yet at d h.1 h.0) (outdegree_due p c) h.2 in
-    let is : h.0 ≡ of_outdegree d = x.3 ∙ sym (after_is p c d) in
-    let y : FirstStands p c bits at d h.1 (of_outdegree d) = subst (λ (s : SoFar). FirstStands p c bits at d h.1 s) is x in
-    let rest : Fields p c bits (of_outdegree d) h.1 vs t end = subst (λ (s : SoFar). Fields p c bits s h.1 vs t end) is h.3 in
-    head_after p c bits at d h.1 vs t end y rest done near (which p c bits d h.1 vs t end rest near)
 
 pub apart_of : (p : Parameters) (c : Context) (bits : List Bool) (at : ℕ) (w : Whole) → ReadsRecord p c bits at (Ok w) → Apart p c bits at w
 apart_of p c bits at w h =
@@ -143,5 +114,5 @@ apart_of p c bits at w h =
         fields_same p c p.chain p.arcs others (λ v few total. omega (arith, total)) r bits nothing_yet at h.0 t h.2 (subst (λ (n : ℕ). passes p.chain n ≡ false) same.depth) refl e h.3,
         (sym (same_next p c p.chain p.arcs others t e) ∙ h.4.0, ap (λ (l : List ℕ). length l) (sym all) ∙ h.4.1, h.4.2 ∙ all, h.4.3 ∙ same.depth, h.4.4),
       );
-      head = head_of p c bits at h.0 t h.2 h.3 h.4.0 near;
+      head = head_of p c bits at t h.2 h.4.0 near (h.0, h.3);
     }

@@ -27,6 +27,7 @@ pub record Step (p : Parameters) (c : Context) (bits : List Bool) (s : SoFar) (a
   pub v : ℕ
   pub mid : ℕ
   pub stands : IsWord code v (drop at bits) (drop mid bits)
+  pub whole : Stands (need.Read f code) p c bits s at v mid (after p c s f v)
   pub fine : refusal p c s f v ≡ None
   pub on : LeadsTo p c bits (after p c s f v) mid t end
 
@@ -42,6 +43,7 @@ step_of p c bits s at f code t end due ends (v ∷ vs, h) =
       v = v;
       mid = h.1;
       stands = (x.0.0, x.0.1.1 ∙ ap (λ (l : List Bool). word code v ++ l) (sym (behind_at bits (word code v) x.0.1.0 at h.1 x.1 x.0.1.1)));
+      whole = (x.0, x.1, x.2, refl);
       fine = x.2;
       on = (vs, subst (λ (u : SoFar). Fields p c bits u h.1 vs t end) x.3 h.3);
     }

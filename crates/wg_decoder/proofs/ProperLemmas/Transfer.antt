@@ -21,6 +21,7 @@ use Rattle.wg_grammar.proofs.Tallies.{due, need_follows}
 use Rattle.wg_graph.specs.Numbers.{is_in, numbers_where}
 use Rattle.wg_graph.specs.Copied.{copied_members}
 use Rattle.wg_decoder.specs.Answer.{context_at}
+use Rattle.wg_decoder.proofs.HeadLemmas.{first_reason, reference_near}
 use Rattle.wg_decoder.specs.Proper.{behind_of, IsRecord}
 
 -- ---- the reference is read once, and is near
@@ -28,18 +29,26 @@ use Rattle.wg_decoder.specs.Proper.{behind_of, IsRecord}
 abbrev pub Keeps : SoFar → SoFar → Type 0
 Keeps s t = (s.reference ≡ None) ⊎ (s.reference ≡ t.reference)
 
-after_keeps : (p : Parameters) (c : Context) (s : SoFar) (f : Field) (v : ℕ) → (f ≡ field.Reference → s.reference ≡ None) → Keeps s (after p c s f v)
+read_or_kept : (p : Parameters) (c : Context) (s : SoFar) (f : Field) (v : ℕ) → ((after p c s f v).reference ≡ s.reference) ⊎ (f ≡ field.Reference)
 unfolding after
-after_keeps p c s field.Outdegree v due = inr refl
-after_keeps p c s field.Reference v due = inl (due refl)
-after_keeps p c s field.BlockCount v due = inr refl
-after_keeps p c s field.Block v due = inr refl
-after_keeps p c s field.Copied v due = inr refl
-after_keeps p c s field.IntervalCount v due = inr refl
-after_keeps p c s field.Left v due = inr refl
-after_keeps p c s field.Length v due = inr refl
-after_keeps p c s field.Residual v due = inr refl
-after_keeps p c s field.Record v due = inr refl
+read_or_kept p c s field.Outdegree v = inl refl
+read_or_kept p c s field.Reference v = inr refl
+read_or_kept p c s field.BlockCount v = inl refl
+read_or_kept p c s field.Block v = inl refl
+read_or_kept p c s field.Copied v = inl refl
+read_or_kept p c s field.IntervalCount v = inl refl
+read_or_kept p c s field.Left v = inl refl
+read_or_kept p c s field.Length v = inl refl
+read_or_kept p c s field.Residual v = inl refl
+read_or_kept p c s field.Record v = inl refl
+
+-- a reference that was just read
+pub read_reference : (p : Parameters) (c : Context) (s : SoFar) (f : Field) (v : ℕ) → f ≡ field.Reference → (after p c s f v).reference ≡ Some v
+unfolding after
+read_reference p c s f v e = rw e refl
+
+after_keeps : (p : Parameters) (c : Context) (s : SoFar) (f : Field) (v : ℕ) → (f ≡ field.Reference → s.reference ≡ None) → Keeps s (after p c s f v)
+after_keeps p c s f v due = elim (read_or_kept p c s f v) [ inl kept ↦ inr (sym kept) | inr e ↦ inl (due e) ]
 
 to_state : (s u w : SoFar) → w ≡ u → Keeps s u → Keeps s w
 to_state s u w e (inl h) = inl h
@@ -62,22 +71,12 @@ pub fields_keep : (p : Parameters) (c : Context) (bits : List Bool) (s : SoFar) 
 fields_keep p c bits s at [] t end h = inr (ap (λ (x : SoFar). x.reference) (sym h.0))
 fields_keep p c bits s at (v ∷ vs) t end h = join s h.0 t (stands_keep (next p c s) p c bits s at v h.1 h.0 refl h.2) (fields_keep p c bits h.0 h.1 vs t end h.3)
 
-first_reason : (k : Kind) (b e : Bool) → cond b (Some kind.Range) (cond e (Some k) None) ≡ None → b ≡ false
-first_reason k true e h = absurd cc
-first_reason k false e h = refl
-
 after_near : (p : Parameters) (c : Context) (s : SoFar) (f : Field) (v : ℕ) → refusal p c s f v ≡ None → value_or_0 s.reference ≤ min p.window c.page → value_or_0 (after p c s f v).reference ≤ min p.window c.page
-unfolding after refusal
-after_near p c s field.Outdegree v fine near = near
-after_near p c s field.Reference v fine near = ltb-false (min p.window c.page) v (first_reason kind.Chain _ _ fine)
-after_near p c s field.BlockCount v fine near = near
-after_near p c s field.Block v fine near = near
-after_near p c s field.Copied v fine near = near
-after_near p c s field.IntervalCount v fine near = near
-after_near p c s field.Left v fine near = near
-after_near p c s field.Length v fine near = near
-after_near p c s field.Residual v fine near = near
-after_near p c s field.Record v fine near = near
+after_near p c s f v fine near =
+    elim (read_or_kept p c s f v) [
+      | inl kept ↦ omega (arith, near, ap value_or_0 kept)
+      | inr e ↦ omega (arith, ap value_or_0 (read_reference p c s f v e), reference_near p c s v (subst (λ (g : Field). refusal p c s g v ≡ None) e fine))
+    ]
 
 near_of : (p : Parameters) (c : Context) (u w : SoFar) → w ≡ u → value_or_0 u.reference ≤ min p.window c.page → value_or_0 w.reference ≤ min p.window c.page
 near_of p c u w e near = subst (λ (x : SoFar). value_or_0 x.reference ≤ min p.window c.page) (sym e) near
@@ -97,11 +96,6 @@ second_reason : (k : Kind) (b e : Bool) → cond b (Some kind.Range) (cond e (So
 second_reason k true e h = absurd cc
 second_reason k false true h = absurd cc
 second_reason k false false h = refl
-
--- a reference that was just read
-pub read_reference : (p : Parameters) (c : Context) (s : SoFar) (f : Field) (v : ℕ) → f ≡ field.Reference → (after p c s f v).reference ≡ Some v
-unfolding after
-read_reference p c s f v e = rw e refl
 
 abbrev other_limits : Parameters → Option ℕ → ℕ → Parameters
 other_limits p chain arcs = record p { chain = chain; arcs = arcs }
