@@ -171,8 +171,7 @@ module _ (p : Parameters) (c : Context) (chain : Option ℕ) (arcs : ℕ) (other
   fields_same room r bits s at [] t end deep is e h = h
   fields_same room r bits s at (v ∷ vs) t end deep is e h =
       let here : Same s = same_source s t (fields_keep p c bits s at (v ∷ vs) t end h) e in
-      let ends = ends_so h.0 t r (fields_keep p c bits h.0 h.1 vs t end h.3) is in
-      (
+      let ends = ends_so h.0 t r (fields_keep p c bits h.0 h.1 vs t end h.3) is in (
         h.0,
         h.1,
         subst (λ (m : Need). Stands m (other_limits p chain arcs) (context_at c.page 0 others) bits s at v h.1 h.0) (same_next s here) (stands_same room (next p c s) r bits s at v h.1 h.0 deep here ends h.2),
