@@ -6,9 +6,8 @@ use wg_io::SteadySink;
 use wg_num::UNITS;
 use wg_order::Ranking;
 use wg_rank::Bounds;
-use wg_transpose::{PageRun, RunCounts};
 use wg_shape::{quotient, union};
-use wg_transpose::transpose;
+use wg_transpose::{PageRun, RunCounts, transpose};
 use wg_vectors::{COPIED, bytes_of, generate};
 
 // In the overview of wg_graph.
@@ -66,17 +65,10 @@ fn lists_of_a_text(rt: HostRuntime) -> Result<(), Fail> {
 // In the overview of wg_transpose.
 #[test]
 fn arcs_the_other_way_round(rt: HostRuntime) -> Result<(), Fail> {
-    let graph = wg_arcs::read(rt.alloc(), b"0 1\n0 2\n1 2\n", 3)?;
-    let transposed = transpose(rt.alloc(), &graph)?;
-    assert!(rt; transposed.list(0) == [].as_slice());
-    assert!(rt; transposed.list(2) == [0, 1].as_slice());
-    Ok(())
-}
-
-// In the overview of wg_transpose.
-#[test]
-fn runs_of_the_pages_that_link_to_a_page(rt: HostRuntime) -> Result<(), Fail> {
     let graph = wg_arcs::read(rt.alloc(), b"0 4\n1 0\n1 4\n2 4\n4 4\n", 5)?;
+    let transposed = transpose(rt.alloc(), &graph)?;
+    assert!(rt; transposed.list(3) == [].as_slice());
+    assert!(rt; transposed.list(4) == [0, 1, 2, 4].as_slice());
     let counts = RunCounts::of(rt.alloc(), &mut GraphLists::new(&graph))?;
     let runs = counts.fill(rt.alloc(), &mut GraphLists::new(&graph))?;
     let to_last = [PageRun { from: 0, to: 3 }, PageRun { from: 4, to: 5 }];

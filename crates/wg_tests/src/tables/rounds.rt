@@ -10,9 +10,7 @@ use wg_io::MOST_BYTES;
 use wg_num::UNITS;
 use wg_params::Params;
 use wg_random::Records;
-use wg_rank::{
-    Bounds, Gather, MOST_ROUND_ROOM, PAGE_ROUND_ROOM, Pulling, Way, way_for,
-};
+use wg_rank::{Bounds, Gather, MOST_ROUND_ROOM, PAGE_ROUND_ROOM, Pulling, Way, way_for};
 use wg_stream::Sweep;
 use wg_transpose::RunCounts;
 use wg_vectors::{generate, usual};
