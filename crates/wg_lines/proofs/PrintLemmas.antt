@@ -2,7 +2,7 @@
 use Rattle.std.proofs.Common.{◌≡◌, ℕ, ◌+◌, ◌-◌, ◌<◌, ◌≤◌, List, [], ◌∷◌, ◌++◌, length, set, take, drop, refl, sym, ap, subst, ◌∙◌, arith, append_assoc, length-append, length-drop, Result, Ok, Err}
 use borrow.Rule.Slice.PartMut.{mid_of, put_mid, same_len_mid}
 use Rattle.std.proofs.lemmas.Grind.{take-set_at}
-use Rattle.std.proofs.lemmas.List.{append-nil, length-take, length-take-le, take_at, take-append-drop, take-append-le}
+use Rattle.std.proofs.lemmas.List.{append-nil, length-take, length-take-le, take_at, take-take, take-append-drop, take-append-le}
 use Rattle.std.proofs.Math.Seq.{take-append-add}
 use Rattle.wg_outside.specs.Puts.{Puts}
 use Rattle.wg_outside.proofs.PutsLemmas.{puts_more}
@@ -101,17 +101,19 @@ stored_front a k n xs ys there few =
     ∙ ap (λ (l : List ℕ). take a xs ++ l) (take-append-le n ys (drop k (drop a xs)) few)
 
 -- the start of a line, a number behind it, and the end of the line, in so many bytes
-pub line_stored : (size a k n m : ℕ) (xs start digits : List ℕ) → length xs ≡ size → a + n + m < size
-    → length start ≡ length (mid_of a k xs) → n ≤ length start
-    → length digits ≡ length (mid_of (a + n) (size - (a + n)) (put_mid a k xs start))
-    → take (a + n + m + 1) (set (put_mid (a + n) (size - (a + n)) (put_mid a k xs start) digits) (a + n + m) 10)
+pub line_stored : (size a n m most : ℕ) (xs start placed digits : List ℕ) → length xs ≡ size → a + n + m < size
+    → length placed ≡ length (mid_of a (size - a) xs) → n ≤ most → length start ≡ most → take most placed ≡ start
+    → length digits ≡ length (mid_of (a + n) (size - (a + n)) (put_mid a (size - a) xs placed))
+    → take (a + n + m + 1) (set (put_mid (a + n) (size - (a + n)) (put_mid a (size - a) xs placed) digits) (a + n + m) 10)
     ≡ take a xs ++ (take n start ++ take m digits ++ 10 ∷ [])
-line_stored size a k n m xs start digits whole room same few long =
-    let first = put_mid a k xs start in
+line_stored size a n m most xs start placed digits whole room same few whole_start is long =
+    let first = put_mid a (size - a) xs placed in
     let second = put_mid (a + n) (size - (a + n)) first digits in
-    let one : length first ≡ size = same_len_mid a k xs start same ∙ whole in
+    let one : length first ≡ size = same_len_mid a (size - a) xs placed same ∙ whole in
     let two : length second ≡ size = same_len_mid (a + n) (size - (a + n)) first digits long ∙ one in
-    let most : m ≤ length digits = omega (arith, long, length-take (size - (a + n)) (drop (a + n) first), length-drop (a + n) first, one, room) in
-    rw (take-set_at second (a + n + m) (a + n + m + 1) 10 (omega arith) (omega (arith, two, room)), stored_front (a + n) (size - (a + n)) m first digits (omega (arith, one, room)) most, stored_front a k n xs start (omega (arith, whole, room)) few)
+    let least : m ≤ length digits = omega (arith, long, length-take (size - (a + n)) (drop (a + n) first), length-drop (a + n) first, one, room) in
+    let enough : n ≤ length placed = omega (arith, ap length is, length-take most placed, few, whole_start) in
+    let front : take n placed ≡ take n start = sym (take-take n most placed few) ∙ ap (take n) is in
+    rw (take-set_at second (a + n + m) (a + n + m + 1) 10 (omega arith) (omega (arith, two, room)), stored_front (a + n) (size - (a + n)) m first digits (omega (arith, one, room)) least, stored_front a (size - a) n xs placed (omega (arith, whole, room)) enough, front)
     (ap (λ (l : List ℕ). l ++ 10 ∷ []) (append_assoc (take a xs) (take n start) (take m digits))
     ∙ append_assoc (take a xs) (take n start ++ take m digits) (10 ∷ []))

@@ -41,6 +41,17 @@ impl Model for Lines {
     ghost invariant = { λ l. l.len ≤ BUFFER };
 }
 
+// Puts the start of a line to the front of a place. All of it is copied, which costs less than a copy of any other
+// length.
+#[inline(always)]
+fn put_start(place: &mut [u8], start: &[u8; MOST_START])
+    requires { MOST_START ≤ length place.old }
+    ensures start { take MOST_START place.new ≡ start.now }
+    ensures length { length place.new ≡ length place.old }
+{
+    place[..MOST_START].copy_from_slice(start);
+}
+
 impl Lines {
     /// Nothing waits.
     pub fn new() -> Lines
@@ -205,8 +216,7 @@ impl Lines {
         self.hold(b"\n");
     }
 
-    // Lets a line wait that begins with the first `count` bytes of `start`. All of `start` is copied, which costs less
-    // than a copy of any other length, and the length is stored once.
+    // Lets a line wait that begins with the first `count` bytes of `start`.
     #[inline(always)]
     fn hold_pair_after(&mut self, start: &[u8; MOST_START], count: usize, second: u64)
         requires start { count ≤ MOST_START }
@@ -214,7 +224,7 @@ impl Lines {
         ensures { self.new ≡ self.old ++ (take count start.now ++ decimal second ++ codes "\n") }
     {
         let from = self.len;
-        self.bytes[from..from + MOST_START].copy_from_slice(start);
+        put_start(&mut self.bytes[from..], start);
         let at = from + count;
         let end = at + decimal_at(second, &mut self.bytes[at..]);
         self.bytes[end] = b'\n';
