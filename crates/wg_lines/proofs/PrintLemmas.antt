@@ -101,19 +101,18 @@ stored_front a k n xs ys there few =
     ∙ ap (λ (l : List ℕ). take a xs ++ l) (take-append-le n ys (drop k (drop a xs)) few)
 
 -- the start of a line, a number behind it, and the end of the line, in so many bytes
-pub line_stored : (size a n m most : ℕ) (xs start placed digits : List ℕ) → length xs ≡ size → a + n + m < size
-    → length placed ≡ length (mid_of a (size - a) xs) → n ≤ most → length start ≡ most → take most placed ≡ start
-    → length digits ≡ length (mid_of (a + n) (size - (a + n)) (put_mid a (size - a) xs placed))
-    → take (a + n + m + 1) (set (put_mid (a + n) (size - (a + n)) (put_mid a (size - a) xs placed) digits) (a + n + m) 10)
-    ≡ take a xs ++ (take n start ++ take m digits ++ 10 ∷ [])
-line_stored size a n m most xs start placed digits whole room same few whole_start is long =
-    let first = put_mid a (size - a) xs placed in
+pub line_stored : (size a n m most : ℕ) (old first start digits : List ℕ) → length first ≡ size → a + most ≤ size → a + n + m < size
+    → n ≤ most → a ≤ length old → length start ≡ most → take (a + most) first ≡ take a old ++ start
+    → length digits ≡ length (mid_of (a + n) (size - (a + n)) first)
+    → take (a + n + m + 1) (set (put_mid (a + n) (size - (a + n)) first digits) (a + n + m) 10)
+    ≡ take a old ++ (take n start ++ take m digits ++ 10 ∷ [])
+line_stored size a n m most old first start digits whole fits room few there enough is long =
     let second = put_mid (a + n) (size - (a + n)) first digits in
-    let one : length first ≡ size = same_len_mid a (size - a) xs placed same ∙ whole in
-    let two : length second ≡ size = same_len_mid (a + n) (size - (a + n)) first digits long ∙ one in
-    let least : m ≤ length digits = omega (arith, long, length-take (size - (a + n)) (drop (a + n) first), length-drop (a + n) first, one, room) in
-    let enough : n ≤ length placed = omega (arith, ap length is, length-take most placed, few, whole_start) in
-    let front : take n placed ≡ take n start = sym (take-take n most placed few) ∙ ap (take n) is in
-    rw (take-set_at second (a + n + m) (a + n + m + 1) 10 (omega arith) (omega (arith, two, room)), stored_front (a + n) (size - (a + n)) m first digits (omega (arith, one, room)) least, stored_front a (size - a) n xs placed (omega (arith, whole, room)) enough, front)
-    (ap (λ (l : List ℕ). l ++ 10 ∷ []) (append_assoc (take a xs) (take n start) (take m digits))
-    ∙ append_assoc (take a xs) (take n start ++ take m digits) (10 ∷ []))
+    let two : length second ≡ size = same_len_mid (a + n) (size - (a + n)) first digits long ∙ whole in
+    let least : m ≤ length digits = omega (arith, long, length-take (size - (a + n)) (drop (a + n) first), length-drop (a + n) first, whole, room) in
+    let front : take (a + n) first ≡ take a old ++ take n start =
+    sym (take-take (a + n) (a + most) first (omega (arith, few))) ∙ ap (take (a + n)) is
+    ∙ ap (λ (k : ℕ). take (k + n) (take a old ++ start)) (sym (length-take-le a old there)) ∙ take-append-add (take a old) start n in
+    rw (take-set_at second (a + n + m) (a + n + m + 1) 10 (omega arith) (omega (arith, two, room)), stored_front (a + n) (size - (a + n)) m first digits (omega (arith, whole, room)) least, front)
+    (ap (λ (l : List ℕ). l ++ 10 ∷ []) (append_assoc (take a old) (take n start) (take m digits))
+    ∙ append_assoc (take a old) (take n start ++ take m digits) (10 ∷ []))

@@ -41,15 +41,14 @@ impl Model for Lines {
     ghost invariant = { λ l. l.len ≤ BUFFER };
 }
 
-// Puts the start of a line to the front of a place. All of it is copied, which costs less than a copy of any other
-// length.
+// Puts the start of a line at a place. All of it is copied, which costs less than a copy of any other length.
 #[inline(always)]
-fn put_start(place: &mut [u8], start: &[u8; MOST_START])
-    requires { MOST_START ≤ length place.old }
-    ensures start { take MOST_START place.new ≡ start.now }
-    ensures length { length place.new ≡ length place.old }
+fn put_start(bytes: &mut [u8; BUFFER], at: usize, start: &[u8; MOST_START])
+    requires { at + MOST_START ≤ BUFFER }
+    ensures { take (at + MOST_START) bytes.new ≡ take at bytes.old ++ start.now }
 {
-    place[..MOST_START].copy_from_slice(start);
+    let end = at + MOST_START;
+    bytes[at..end].copy_from_slice(start);
 }
 
 impl Lines {
@@ -224,7 +223,7 @@ impl Lines {
         ensures { self.new ≡ self.old ++ (take count start.now ++ decimal second ++ codes "\n") }
     {
         let from = self.len;
-        put_start(&mut self.bytes[from..], start);
+        put_start(&mut self.bytes, from, start);
         let at = from + count;
         let end = at + decimal_at(second, &mut self.bytes[at..]);
         self.bytes[end] = b'\n';

@@ -7,7 +7,8 @@ use Rattle.wg_lines.proofs.lines.Lines.hold_pair_after.Goals as goal
 pub returns : goal.returns
 returns c =
     let held = length-take-le c.self.inside.len c.self.inside.bytes (omega arith) in
-    line_stored BUFFER c.self.inside.len c.args.count c.decimal_at.result MOST_START c.self.inside.bytes c.args.start.now c.put_start.new.place
-    c.decimal_at.new.buf (omega arith) (omega (arith, ap length c.self.view_is, held, c.requires.room)) c.put_start.ensures.length c.requires.start (omega arith)
-    c.put_start.ensures.start c.decimal_at.ensures.length
+    line_stored BUFFER c.self.inside.len c.args.count c.decimal_at.result MOST_START c.self.inside.bytes c.put_start.new.bytes
+    c.args.start.now c.decimal_at.new.buf (omega arith) (omega (arith, ap length c.self.view_is, held, c.requires.room))
+    (omega (arith, ap length c.self.view_is, held, c.requires.room)) c.requires.start (omega arith) (omega arith) c.put_start.ensures
+    c.decimal_at.ensures.length
     ∙ (λ i. c.self.view_is i ++ (take c.args.count c.args.start.now ++ c.decimal_at.ensures.digits i ++ 10 ∷ []))
