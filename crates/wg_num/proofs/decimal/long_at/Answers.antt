@@ -1,6 +1,6 @@
 use Rattle.std.proofs.Common.{arith}
 use Rattle.wg_num.proofs.Places.{at_front, front_is, length_kept}
-use Rattle.wg_num.proofs.decimal.decimal_at.Goals as goal
+use Rattle.wg_num.proofs.decimal.long_at.Goals as goal
 
 pub write_digits-requires : goal.write_digits-requires
 write_digits-requires c = let d = c.digit_count-count.ensures in (omega (arith, d.digits), omega (arith, d.within, c.requires))
