@@ -1,14 +1,17 @@
 //! The fields of a record, passed once to find where its three fronts begin.
-ghost use Rattle.std.specs.Prelude.{◌≡◌, ◌<◌, ℕ, List, Option, drop};
+ghost use Rattle.std.specs.Prelude.{◌≡◌, ◌<◌, ◌≤◌, ◌-◌, ◌^◌, ℕ, List, Option, drop, length, sum};
+ghost use Rattle.wg_bits.specs.Bits.{rest};
 ghost use Rattle.wg_graph.specs.Ascending.{Ascends};
 ghost use Rattle.wg_decoder.specs.Proper.Laid.{list_or_none, length_of};
 ghost use Rattle.wg_decoder.specs.Proper.{IsRecord};
-ghost use Rattle.wg_iterators.specs.Fields.{AreFronts};
+ghost use Rattle.wg_intervals.specs.Stored.{numbers_inside};
+ghost use Rattle.wg_iterators.specs.Fronts.{copied_of};
+ghost use Rattle.wg_iterators.specs.Fields.{AreFronts, Standing};
 
 use crate::passing::{pass_blocks, pass_intervals};
 use wg_bits::Cursor;
 use wg_blocks::Mask;
-use wg_decoder::proper::{RecordHead, Residuals, read_head, value_where};
+use wg_decoder::proper::{Lookahead, RecordHead, Residuals, read_head, value_where};
 use wg_intervals::IntervalWalk;
 use wg_params::{Code, Params};
 
@@ -20,6 +23,50 @@ pub(crate) struct Fronts<'a> {
     pub(crate) mask: Mask<'a>,
     pub(crate) intervals: IntervalWalk<'a>,
     pub(crate) residuals: Residuals<'a>,
+}
+
+// The copied members of a record, and how many there are. The cursor passes the words of its blocks. `source` is as below.
+#[inline(always)]
+fn find_copied<'a>(
+    params: &Params,
+    source: Option<u64>,
+    cursor: &mut Lookahead<'a>,
+) -> (Mask<'a>, u64)
+    requires { (page : ℕ) × (r : Standing params.now page) × (source ≡ length_of r.below)
+        × (r.laid.after_reference ≡ rest cursor.old) }
+    ensures { (page : ℕ) (r : Standing params.now page) → source ≡ length_of r.below
+        → r.laid.after_reference ≡ rest cursor.old
+        → (copied_of result.0 (list_or_none r.below) ≡ r.laid.copied) × (length r.laid.copied ≡ result.1)
+        × (r.laid.after_blocks ≡ rest cursor.new) }
+{
+    let count = value_where(source.is_some(), params.block_counts(), cursor);
+    let mask = Mask::new(cursor.again(), params.blocks(), count);
+    let copied = pass_blocks(params.blocks(), count, source.unwrap_or(0), cursor);
+    (mask, copied)
+}
+
+// The numbers inside intervals, of the `extra` successors that are not copied, and how many there are. The cursor passes
+// the words of the intervals.
+#[inline(always)]
+fn find_inside<'a>(
+    params: &Params,
+    page: u64,
+    extra: u64,
+    cursor: &mut Lookahead<'a>,
+) -> (IntervalWalk<'a>, u64)
+    requires page { page ≤ 2 ^ 62 }
+    requires short { extra < 2 ^ 63 }
+    requires laid { (r : Standing params.now page) × (r.laid.outdegree - length r.laid.copied ≡ extra)
+        × (r.laid.after_blocks ≡ rest cursor.old) }
+    ensures { (r : Standing params.now page) → r.laid.outdegree - length r.laid.copied ≡ extra
+        → r.laid.after_blocks ≡ rest cursor.old → (result.0 ≡ numbers_inside r.laid.lefts r.laid.lengths)
+        × (sum r.laid.lengths ≡ result.1) × (r.laid.after_intervals ≡ rest cursor.new) }
+{
+    let has_intervals = (extra > 0) & (params.interval() > 0);
+    let count = value_where(has_intervals, Code::Gamma, cursor);
+    let intervals = IntervalWalk::new(cursor.again(), page, count, params.interval());
+    let covered = pass_intervals(params.interval(), count, cursor);
+    (intervals, covered)
 }
 
 // The fronts of the record of `page`, which stands at the cursor. `source` is the length of the list that the record
@@ -46,14 +93,9 @@ pub(crate) fn find_fronts<'a>(
         reference: _,
         words: mut cursor,
     } = read_head(params, cursor);
-    let count = value_where(source.is_some(), params.block_counts(), &mut cursor);
-    let mask = Mask::new(cursor.again(), params.blocks(), count);
-    let copied = pass_blocks(params.blocks(), count, source.unwrap_or(0), &mut cursor);
+    let (mask, copied) = find_copied(params, source, &mut cursor);
     let extra = outdegree - copied;
-    let has_intervals = (extra > 0) & (params.interval() > 0);
-    let count = value_where(has_intervals, Code::Gamma, &mut cursor);
-    let intervals = IntervalWalk::new(cursor.again(), page, count, params.interval());
-    let covered = pass_intervals(params.interval(), count, &mut cursor);
+    let (intervals, covered) = find_inside(params, page, extra, &mut cursor);
     let residuals = Residuals::new(cursor, params.residuals(), page, extra - covered);
     Fronts {
         outdegree,

@@ -29,11 +29,9 @@ pub(crate) fn pass_blocks(code: Code, count: u64, source: u64, cursor: &mut Look
     requires code { IsCode code }
     requires stand { (values : List ℕ) × (behind : List Bool) × (length values ≡ count)
         × (sum (blocks_of values) ≤ source) × WordsTo code values (rest cursor.old) behind }
-    ensures copied { (values : List ℕ) (behind : List Bool) → length values ≡ count
-        → sum (blocks_of values) ≤ source → WordsTo code values (rest cursor.old) behind
-        → (list : List ℕ) → length list ≡ source → result ≡ length (copied_members (blocks_of values) list) }
-    ensures behind { (values : List ℕ) (behind : List Bool) → length values ≡ count
-        → sum (blocks_of values) ≤ source → WordsTo code values (rest cursor.old) behind → behind ≡ rest cursor.new }
+    ensures { (values : List ℕ) (behind : List Bool) → length values ≡ count → sum (blocks_of values) ≤ source
+        → WordsTo code values (rest cursor.old) behind → (behind ≡ rest cursor.new)
+        × ((list : List ℕ) → length list ≡ source → result ≡ length (copied_members (blocks_of values) list)) }
 {
     let mut copied = source;
     let mut left = source;
@@ -51,12 +49,9 @@ pub(crate) fn pass_intervals(least: u64, count: u64, cursor: &mut Lookahead<'_>)
     requires { (page : ℕ) × (past : Option ℕ) × (lefts : List ℕ) × (lengths : List ℕ) × (behind : List Bool)
         × (length lefts ≡ count) × (sum lengths < 2 ^ 63)
         × IntervalsTo page least past lefts lengths (rest cursor.old) behind }
-    ensures covered { (page : ℕ) (past : Option ℕ) (lefts lengths : List ℕ) (behind : List Bool)
+    ensures { (page : ℕ) (past : Option ℕ) (lefts lengths : List ℕ) (behind : List Bool)
         → length lefts ≡ count → IntervalsTo page least past lefts lengths (rest cursor.old) behind
-        → result ≡ sum lengths }
-    ensures behind { (page : ℕ) (past : Option ℕ) (lefts lengths : List ℕ) (behind : List Bool)
-        → length lefts ≡ count → IntervalsTo page least past lefts lengths (rest cursor.old) behind
-        → behind ≡ rest cursor.new }
+        → (result ≡ sum lengths) × (behind ≡ rest cursor.new) }
 {
     let mut covered = 0;
     'intervals: for _index in 0..count {
