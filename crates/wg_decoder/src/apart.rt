@@ -9,7 +9,7 @@ ghost use Rattle.wg_decoder.specs.Remembered.{known_of};
 ghost use Rattle.wg_decoder.specs.Spare.{NoneLonger};
 
 use crate::behind::Alone;
-use crate::reading::decode_behind;
+use crate::reading::decode_from;
 use crate::{Decoded, Spares, Unread};
 use wg_grammar::Source;
 use wg_params::Params;
@@ -51,5 +51,5 @@ pub fn decode_over<S: Source>(
         list: named,
         depth,
     };
-    decode_behind(params, page, arcs_before, &behind, spares, source)
+    decode_from(params, page, arcs_before, &behind, spares, source)
 }

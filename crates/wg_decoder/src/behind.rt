@@ -5,16 +5,16 @@ ghost use Rattle.wg_decoder.specs.Handed.{page_of};
 
 use crate::Window;
 
-// Pages before one, the nearest first.
+/// What is known of the pages before one, the nearest first, by the references to them.
 pub trait Behind {
     ghost pages: { Self → List Known };
 
-    // The list of the page that a reference names.
+    /// The list of the page that a reference names; empty for 0.
     fn list_at(&self, reference: u64) -> &[u64]
         requires { reference ≤ length (pages self.now) }
         ensures { result.now ≡ referenced (pages self.now) reference };
 
-    // The depth of a page with this reference.
+    /// How many references lead on from a page with this one: one more than from the page that it names; none for 0.
     fn depth_at(&self, page: u64, reference: u64) -> u64
         requires there { reference ≤ length (pages self.now) }
         requires depths { (i : ℕ) → i < reference → (get_or (pages self.now) i no_page).depth < page }

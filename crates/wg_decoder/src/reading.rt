@@ -64,9 +64,12 @@ pub(crate) fn decode_members<S: Source>(
     Ok(Decoded { list, depth })
 }
 
-// The record that comes next from a source, over what is known of the pages behind.
+/// The record that comes next from a source, of a page with `arcs_before` arcs before it. The source moves over the
+/// record, and may stand anywhere in it if it is refused, memory runs out or a word was refused. Of the pages behind
+/// only those count that a reference may name; a [`Window`] keeps them. No list of the spares grows beyond the pages
+/// that there are, whatever the answer.
 #[inline(always)]
-pub(crate) fn decode_behind<S: Source, B: Behind>(
+pub fn decode_from<S: Source, B: Behind>(
     params: &Params,
     page: u64,
     arcs_before: u64,
@@ -96,39 +99,6 @@ pub(crate) fn decode_behind<S: Source, B: Behind>(
     let named = behind.list_at(head.reference);
     let depth = behind.depth_at(page, head.reference);
     decode_members(params, page, start, head, named, depth, spares, source)
-}
-
-/// The record that comes next from a source, of a page with `arcs_before` arcs before it. The source moves over the
-/// record, and may stand anywhere in it if it is refused, memory runs out or a word was refused. Of the window only
-/// the pages count that a reference may name. No list of the spares grows beyond the pages that there are, whatever the
-/// answer.
-#[inline(always)]
-pub fn decode_from<S: Source>(
-    params: &Params,
-    page: u64,
-    arcs_before: u64,
-    window: &Window,
-    spares: &mut Spares,
-    source: &mut S,
-) -> Result<Decoded, Unread<S::Refusal>>
-    requires page { page < params.now.nodes }
-    requires before { arcs_before ≤ params.now.arcs }
-    requires serves { Serves params.now page window.now.behind }
-    ensures later { S.later source.old source.new }
-    ensures refused { OnRefusal result (S.caused source.old source.new) }
-    ensures reads { (bits : ListOf Bool) → S.reads_from source.old bits
-        → IfOk result (λ d. ReadsRecord params.now (context_at page arcs_before window.now.behind) bits
-        (S.offset source.old) (Ok (record { known = known_of d; end = S.offset source.new }))) }
-    ensures fault { (bits : ListOf Bool) → S.reads_from source.old bits
-        → OnFault result (λ e. ReadsRecord params.now (context_at page arcs_before window.now.behind) bits
-        (S.offset source.old) (Err e)) }
-    ensures depth { IfOk result (λ d. d.depth ≤ page) }
-    ensures ascends { IfOk result (λ d. Ascends 0 d.list) }
-    ensures below { IfOk result (λ d. Below params.now.nodes d.list) }
-    ensures total { IfOk result (λ d. arcs_before + length d.list ≤ params.now.arcs) }
-    ensures short { NoneLonger params.now.nodes spares.old → NoneLonger params.now.nodes spares.new }
-{
-    decode_behind(params, page, arcs_before, window, spares, source)
 }
 
 // Bits in memory refuse no word.

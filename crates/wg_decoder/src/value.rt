@@ -12,9 +12,11 @@ use wg_codes::{Read, unfold_from};
 use wg_grammar::{Fault, Field, Kind, Source};
 use wg_params::Code;
 
-// The value of the word that comes next.
+// The value of the word that comes next. The usual code is asked for first, so that its words need not be told from
+// those of five.
 #[inline(always)]
-pub fn value<S: Source>(
+pub fn usual_value<S: Source>(
+    usual: Code,
     page: u64,
     field: Field,
     code: Code,
@@ -30,7 +32,12 @@ pub fn value<S: Source>(
         → OnFault result (λ e. IsNoWordAt field code bits (S.offset source.old) page e) }
 {
     let at = source.at();
-    let read = match source.read(code) {
+    let word = if code == usual {
+        source.read(usual)
+    } else {
+        source.read(code)
+    };
+    let read = match word {
         Ok(read) => read,
         Err(refusal) => return Err(Unread::Refused(refusal)),
     };
@@ -51,11 +58,9 @@ pub fn value<S: Source>(
     }
 }
 
-/// The same, if the code is most likely the usual one: it is asked for first, so that its words need not be told from
-/// those of five.
+// The value of the word that comes next.
 #[inline(always)]
-pub fn usual_value<S: Source>(
-    usual: Code,
+pub fn value<S: Source>(
     page: u64,
     field: Field,
     code: Code,
@@ -70,10 +75,7 @@ pub fn usual_value<S: Source>(
     ensures fault { (bits : List Bool) → S.reads_from source.old bits
         → OnFault result (λ e. IsNoWordAt field code bits (S.offset source.old) page e) }
 {
-    if code == usual {
-        return value(page, field, usual, source);
-    }
-    value(page, field, code, source)
+    usual_value(code, page, field, code, source)
 }
 
 /// The page that the word that comes next means: by its distance from `page`, if nothing comes before it; else by
