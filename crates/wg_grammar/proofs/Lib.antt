@@ -1,6 +1,7 @@
 mod Rows
 pub mod FieldCodes
 pub mod Chain
+pub mod Along
 pub mod OneRecord
 pub mod Orderly
 pub mod SomeRecord

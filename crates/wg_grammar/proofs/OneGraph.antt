@@ -22,6 +22,7 @@ use Rattle.wg_codes.proofs.CodeLaws.{value_front}
 use Rattle.wg_graph.specs.Ascending.{Ascends, Below}
 use Rattle.wg_graph.proofs.Sets.{ascends-where, below-where}
 use Rattle.wg_grammar.specs.Members.{list_of, is_member}
+use Rattle.wg_grammar.proofs.Along.{not_first, kept_along}
 use Rattle.wg_grammar.proofs.OneRecord.{record_one}
 use Rattle.wg_grammar.proofs.SomeRecord.{record_some}
 
@@ -48,14 +49,9 @@ fields_onward p a bits s at (v ∷ vs) t end h = omega (arith, stands_onward (ne
 abbrev ArcsFit : Parameters → Context → SoFar → Type 0
 ArcsFit p a s = a.arcs_before + value_or_0 s.outdegree ≤ p.arcs
 
-total_none : (b c : Bool) → cond b (Some kind.Range) (cond c (Some kind.Total) None) ≡ None → c ≡ false
-total_none true c e = absurd cc
-total_none false true e = absurd cc
-total_none false false e = refl
-
 after_arcs : (p : Parameters) (a : Context) (s : SoFar) (f : Field) (v : ℕ) → ArcsFit p a s → refusal p a s f v ≡ None → ArcsFit p a (after p a s f v)
 unfolding after refusal
-after_arcs p a s field.Outdegree v h e = ltb-false _ _ (total_none _ _ e)
+after_arcs p a s field.Outdegree v h e = ltb-false _ _ (not_first _ _ None (not_first _ _ _ e).1).0
 after_arcs p a s field.Reference v h e = h
 after_arcs p a s field.BlockCount v h e = h
 after_arcs p a s field.Block v h e = h
@@ -66,14 +62,8 @@ after_arcs p a s field.Length v h e = h
 after_arcs p a s field.Residual v h e = h
 after_arcs p a s field.Record v h e = h
 
-stands_arcs : (m : Need) (p : Parameters) (a : Context) (bits : List Bool) (s : SoFar) (at v mid : ℕ) (t : SoFar) → ArcsFit p a s → Stands m p a bits s at v mid t → ArcsFit p a t
-stands_arcs (need.Read f c) p a bits s at v mid t h x = subst (ArcsFit p a) (sym x.3) (after_arcs p a s f v h x.2)
-stands_arcs need.Check p a bits s at v mid t h x = subst (ArcsFit p a) (sym x.3) (after_arcs p a s field.Copied v h x.2)
-stands_arcs need.End p a bits s at v mid t h x = absurd x
-
 pub fields_arcs : (p : Parameters) (a : Context) (bits : List Bool) (s : SoFar) (at : ℕ) (vs : List ℕ) (t : SoFar) (end : ℕ) → ArcsFit p a s → Fields p a bits s at vs t end → ArcsFit p a t
-fields_arcs p a bits s at [] t end fits h = subst (ArcsFit p a) (sym h.0) fits
-fields_arcs p a bits s at (v ∷ vs) t end fits h = fields_arcs p a bits h.0 h.1 vs t end (stands_arcs (next p a s) p a bits s at v h.1 h.0 fits h.2) h.3
+fields_arcs p a bits s at vs t end fits h = kept_along p a bits (ArcsFit p a) (λ u f v is fine x. after_arcs p a u f v x fine) s at vs t end h fits
 
 pub record_within : (p : Parameters) (a : Context) (bits : List Bool) (start : ℕ) (w : Whole) → start ≤ length bits → ReadsRecord p a bits start (Ok w) → w.end ≤ length bits
 record_within p a bits start w fits h = omega (arith, fields_within p a bits nothing_yet start h.0 h.1 h.2 fits h.3, h.4.4)

@@ -22,6 +22,7 @@ use Rattle.wg_grammar.specs.Refusal.{refusal}
 use Rattle.wg_grammar.specs.Members.{is_covered, list_of}
 use Rattle.wg_grammar.specs.Record.{Stands, Fields}
 use Rattle.wg_grammar.specs.Tally.{tally}
+use Rattle.wg_grammar.proofs.Along.{not_first, kept_once, kept_along}
 use Rattle.wg_grammar.proofs.Chain.{field_of, Early, tests, tested}
 
 -- ---- no more members than the parts have numbers
@@ -127,11 +128,6 @@ none_is_0 : (o : Option ℕ) → is_none o ≡ true → value_or_0 o ≡ 0
 none_is_0 None e = refl
 none_is_0 (Some x) e = absurd cc
 
--- a refusal for one reason that did not come
-one_reason : (b : Bool) (k : Kind) → cond b (Some k) None ≡ None → b ≡ false
-one_reason true k e = absurd cc
-one_reason false k e = refl
-
 -- neither of two reasons
 first_of : (a b : Bool) → (a || b) ≡ false → a ≡ false
 first_of true b e = absurd cc
@@ -144,28 +140,26 @@ orderly_after p c s field.Reference v t fine h = let n = h.reference t.0 in from
 orderly_after p c s field.BlockCount v t fine h = let n = h.block_count t in from_nothing p c _ (record { unchecked = n.unchecked; lengths = n.lengths; residuals = n.residuals }) h.empty
 orderly_after p c s field.Block v t fine h = let n = h.blocks t in from_nothing p c _ (record { unchecked = n.unchecked; lengths = n.lengths; residuals = n.residuals }) h.empty
 orderly_after p c s field.Copied v t fine h =
-    let allowed : length (copied c s) ≤ value_or_0 s.outdegree = ltb-false _ _ (one_reason _ kind.Copied fine) in
+    let allowed : length (copied c s) ≤ value_or_0 s.outdegree = ltb-false _ _ (not_first _ kind.Copied None fine).0 in
     from_late p c _ t.1 (let e : (ltb 0 (value_or_0 s.reference) && false) ≡ false = elim (cases_Bool (ltb 0 (value_or_0 s.reference))) [ inl y ↦ rw y refl | inr y ↦ rw y refl ] in e) h.fits (λ e. allowed) h.empty
 orderly_after p c s field.IntervalCount v t fine h = from_late p c _ t.2 t.1 h.fits h.allowed h.empty
 orderly_after p c s field.Left v t fine h = from_late p c _ t.2 t.1 h.fits h.allowed h.empty
 orderly_after p c s field.Length v t fine h =
-    let room : v + p.interval ≤ missing c s = ltb-false _ _ (first_of _ _ (one_reason _ kind.Range fine)) in
+    let room : v + p.interval ≤ missing c s = ltb-false _ _ (first_of _ _ (not_first _ kind.Range None fine).0) in
     from_late p c _ t.2 t.1 (omega (arith, room, h.fits, sum_push s.lengths (v + p.interval))) h.allowed h.empty
 orderly_after p c s field.Residual v t fine h =
     let room : 0 < missing c s = ltb-true _ _ t.0 in
     from_late p c _ t.2 t.1 (omega (arith, room, h.fits, length_push s.residuals (value_or_0 (own_residual c s v)))) h.allowed h.empty
 orderly_after p c s field.Record v t fine h = h
 
+orderly_next : (p : Parameters) (c : Context) (s : SoFar) (f : Field) (v : ℕ) → field_of (next p c s) ≡ f → refusal p c s f v ≡ None → Orderly p c s → Orderly p c (after p c s f v)
+orderly_next p c s f v is = orderly_after p c s f v (subst (tests (tally p c s)) is (next_tested p c s))
+
 pub orderly_stands : (m : Need) (p : Parameters) (c : Context) (bits : List Bool) (s : SoFar) (at v mid : ℕ) (t : SoFar) → next p c s ≡ m → Stands m p c bits s at v mid t → Orderly p c s → Orderly p c t
-orderly_stands (need.Read f code) p c bits s at v mid t is x h =
-    subst (Orderly p c) (sym x.3) (orderly_after p c s f v (subst (tests (tally p c s)) (ap field_of is) (next_tested p c s)) x.2 h)
-orderly_stands need.Check p c bits s at v mid t is x h =
-    subst (Orderly p c) (sym x.3) (orderly_after p c s field.Copied v (subst (tests (tally p c s)) (ap field_of is) (next_tested p c s)) x.2 h)
-orderly_stands need.End p c bits s at v mid t is x h = absurd x
+orderly_stands m p c bits = kept_once p c bits (Orderly p c) (orderly_next p c) m
 
 pub orderly_fields : (p : Parameters) (c : Context) (bits : List Bool) (s : SoFar) (at : ℕ) (vs : List ℕ) (t : SoFar) (end : ℕ) → Fields p c bits s at vs t end → Orderly p c s → Orderly p c t
-orderly_fields p c bits s at [] t end x h = subst (Orderly p c) (sym x.0) h
-orderly_fields p c bits s at (v ∷ vs) t end x h = orderly_fields p c bits x.0 x.1 vs t end x.3 (orderly_stands (next p c s) p c bits s at v x.1 x.0 refl x.2 h)
+orderly_fields p c bits = kept_along p c bits (Orderly p c) (orderly_next p c)
 
 copied_none : (c : Context) (s : SoFar) → value_or_0 s.reference ≡ 0 → length (copied c s) ≡ 0
 unfolding copied_members

@@ -20,6 +20,7 @@ use Rattle.wg_grammar.specs.declared.progress.Tally.{Tally}
 use Rattle.wg_grammar.specs.Tally.{tally, Follows}
 use Rattle.wg_grammar.specs.Judging.{named, Gives}
 use Rattle.wg_grammar.specs.Steps.{given_length, given_depth, after_of, Due}
+use Rattle.wg_grammar.proofs.Along.{not_first}
 use Rattle.wg_grammar.proofs.Chain.{field_of, tests, tested}
 
 pub need_follows : (q : Tally) (p : Parameters) (c : Context) (s : SoFar) → Follows q p c s → need_of q ≡ next p c s
@@ -32,7 +33,7 @@ is_none_is : {A : Type 0} (o : Option A) → is_none o ≡ true → o ≡ None
 is_none_is None e = refl
 is_none_is (Some x) e = absurd cc
 
-due_of : (t : Tally) (f : Field) → tests t f → Due t f
+pub due_of : (t : Tally) (f : Field) → tests t f → Due t f
 unfolding tests
 due_of t field.Outdegree e = is_none_is t.outdegree e
 due_of t field.Reference e = is_none_is t.reference (and_parts _ _ e.0).1
@@ -86,23 +87,19 @@ refusal_by_numbers p c s given field.Record v g = refl
 pub last_push : (xs : List ℕ) (y : ℕ) → last_of (xs ++ y ∷ []) ≡ y
 last_push xs y = get_or_push xs y 0 _ (omega (arith, length_push xs y))
 
-range_none : (b : Bool) (o : Option Kind) → cond b (Some kind.Range) o ≡ None → b ≡ false
-range_none true o e = absurd cc
-range_none false o e = refl
-
 pub after_by_numbers : (p : Parameters) (c : Context) (s : SoFar) (given : Option Referenced) (f : Field) (v : ℕ) → Gives given p c f v → (f ≡ field.Reference → s.blocks ≡ []) →
     refusal p c s f v ≡ None → tally p c (after p c s f v) ≡ after_of (tally p c s) given f v
 unfolding refusal after after_of copied_members
 after_by_numbers p c s given field.Outdegree v g early fine = refl
 after_by_numbers p c s given field.Reference v g early fine =
-    let low = ltb-false _ _ (range_none _ _ fine) in
+    let low = ltb-false _ _ (not_first _ _ _ fine).0 in
     let same : given_length given ≡ length (referenced c.behind v) = rw (g refl) (length_named p c v low) in
     let none = early refl in
     let all : length (copied_members s.blocks (referenced c.behind v)) ≡ given_length given = rw none (ap length (at_positions_all (is_copied []) 0 (referenced c.behind v) (λ q h. refl)) ∙ sym same) in
     rw (all, same) refl
 after_by_numbers p c s given field.BlockCount v g early fine = refl
 after_by_numbers p c s given field.Block v g early fine =
-    let fits = ltb-false _ _ (range_none _ _ fine) in
+    let fits = ltb-false _ _ (not_first _ _ _ fine).0 in
     rw (length_push s.blocks (own_block s v), sum_push s.blocks (own_block s v), copied_count s.blocks (source c s) (own_block s v) fits) refl
 after_by_numbers p c s given field.Copied v g early fine = refl
 after_by_numbers p c s given field.IntervalCount v g early fine = refl
