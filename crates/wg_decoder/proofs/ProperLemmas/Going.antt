@@ -136,8 +136,3 @@ page_of p (Some y) fine = elim (cases_Bool (ltb y p.nodes)) [
   | inl so ↦ (y, refl, so)
   | inr e ↦ absurd (let f : cond false None (Some kind.Range) ≡ None = ap (λ (b : Bool). cond b None (Some kind.Range)) (sym e) ∙ fine in cc)
 ]
-
--- a refusal for one reason that did not come
-pub one_reason : (b : Bool) (k : Kind) → cond b (Some k) None ≡ None → b ≡ false
-one_reason true k e = absurd cc
-one_reason false k e = refl

@@ -3,6 +3,7 @@ use Rattle.std.proofs.Common.{◌≡◌, ℕ, zero, suc, ◌+◌, ◌-◌, ◌^�
 use Rattle.std.specs.Prelude.{sum, is_some}
 use Rattle.std.proofs.lemmas.Bool.{cases_Bool, lt-ltb, le-ltb, ltb-true, ltb-false, eqb-true, eqb-false}
 use Rattle.std.proofs.lemmas.List.{length_push, append-nil, append_assoc, get_or-replicate}
+use Rattle.wg_params.specs.declared.code.Code.{Code}
 use Rattle.wg_params.specs.declared.code.Code.TheVariants.{Gamma}
 use Rattle.wg_params.specs.Parameters.{Parameters}
 use Rattle.wg_grammar.specs.declared.fault.Field.TheVariants as field
@@ -18,7 +19,10 @@ use Rattle.wg_decoder.specs.Proper.Laid.{MaybeWord, WordsTo, IntervalsTo, Residu
 use Rattle.wg_blocks.specs.Stored.{blocks_after}
 use Rattle.wg_decoder.specs.Proper.{behind_of}
 use Rattle.wg_decoder.proofs.ProperLemmas.Taking.{block_first, no_blocks}
-use Rattle.wg_decoder.proofs.ProperLemmas.Going.{step_of, state, copy, HasHead, Settled, NoCount, Filled, next_block, next_interval_count, one_reason}
+use Rattle.wg_grammar.proofs.Along.{not_first}
+use Rattle.wg_decoder.proofs.ProperLemmas.Going.{step_of, state, copy, HasHead, Settled, NoCount, Filled, next_block, next_interval_count}
+use Rattle.wg_decoder.specs.Apart.{of_outdegree}
+use Rattle.wg_decoder.proofs.HeadLemmas.{outdegree_due, reference_due, reference_near}
 use Rattle.wg_decoder.proofs.ProperLemmas.Tails.{residuals_go, intervals_go}
 use Rattle.wg_decoder.specs.Stages.Leading.{LeadsTo}
 
@@ -57,7 +61,7 @@ blocks_go zero p c bits d r n bs at t end h refers ends total fits on = record {
 blocks_go (suc count) p c bits d r n bs at t end h refers ends total fits on =
     let f = step_of p c bits (state d r (Some n) bs false None [] [] []) at field.Block p.blocks t end (next_block p c d r n bs h refers (lt-ltb (length bs) n (omega (arith, total)))) ends on in
     let b : ℕ = cond (eqb (length bs) 0) f.v (f.v + 1) in
-    let room : sum bs + b ≤ length (referenced c.behind (value_or_0 r)) = ltb-false _ _ (one_reason _ kind.Range f.fine) in
+    let room : sum bs + b ≤ length (referenced c.behind (value_or_0 r)) = ltb-false _ _ (not_first _ kind.Range None f.fine).0 in
     let g = blocks_go count p c bits d r n (bs ++ b ∷ []) f.mid t end h refers ends (omega (arith, total, length_push bs b)) (omega (arith, room, sum_push bs b)) f.on in
     let same : (bs ++ b ∷ []) ++ blocks_after (length (bs ++ b ∷ [])) g.values ≡ bs ++ blocks_after (length bs) (f.v ∷ g.values) = blocks_more bs g.values f.v b refl in
     record {
@@ -85,13 +89,13 @@ pub record Tail (p : Parameters) (c : Context) (bits : List Bool) (d : ℕ) (r n
   pub i : Option ℕ
   pub whole : t ≡ state d r n bs k i lefts lengths residuals
 
-maybe_true : (b : Bool) (v : ℕ) (z y : List Bool) → b ≡ true → IsWord Gamma v z y → MaybeWord b Gamma v z y
-maybe_true true v z y e h = h
-maybe_true false v z y e h = absurd cc
+maybe_there : (b : Bool) (code : Code) (v : ℕ) (z y : List Bool) → b ≡ true → IsWord code v z y → MaybeWord b code v z y
+maybe_there true code v z y e h = h
+maybe_there false code v z y e h = absurd cc
 
-maybe_false : (b : Bool) (z : List Bool) → b ≡ false → MaybeWord b Gamma 0 z z
-maybe_false true z e = absurd cc
-maybe_false false z e = (refl, refl)
+maybe_not : (b : Bool) (code : Code) (z : List Bool) → b ≡ false → MaybeWord b code 0 z z
+maybe_not true code z e = absurd cc
+maybe_not false code z e = (refl, refl)
 
 pub tail_of : (p : Parameters) (c : Context) (bits : List Bool) (d : ℕ) (r n : Option ℕ) (bs : List ℕ) (k : Bool) (at : ℕ) (t : SoFar) (end : ℕ) → Settled p d r n bs k → p.nodes ≤ 2 ^ 62 → next p c t ≡ need.End → LeadsTo p c bits (state d r n bs k None [] [] []) at t end → Tail p c bits d r n bs k at t end
 unfolding after
@@ -109,7 +113,7 @@ tail_of p c bits d r n bs k at t end h few ends on =
             lefts = g.lefts;
             lengths = g.lengths;
             mid = f.mid;
-            count_stands = subst (λ (j : ℕ). MaybeWord (ltb 0 (d - length (copy c r bs)) && ltb 0 p.interval) Gamma j (drop at bits) (drop f.mid bits)) (sym g.all) (maybe_true _ f.v (drop at bits) (drop f.mid bits) there f.stands);
+            count_stands = subst (λ (j : ℕ). MaybeWord (ltb 0 (d - length (copy c r bs)) && ltb 0 p.interval) Gamma j (drop at bits) (drop f.mid bits)) (sym g.all) (maybe_there _ Gamma f.v (drop at bits) (drop f.mid bits) there f.stands);
             last = g.mid;
             intervals_stand = g.stand;
             inside_fit = g.fit;
@@ -127,7 +131,7 @@ tail_of p c bits d r n bs k at t end h few ends on =
             lefts = [];
             lengths = [];
             mid = at;
-            count_stands = maybe_false _ (drop at bits) not_there;
+            count_stands = maybe_not _ Gamma (drop at bits) not_there;
             last = at;
             intervals_stand = refl;
             inside_fit = omega arith;
@@ -171,26 +175,10 @@ pub record Head (p : Parameters) (c : Context) (bits : List Bool) (at : ℕ) (t 
   pub none : eqb d 0 ≡ true → r ≡ None
   pub on : LeadsTo p c bits (state d r None [] false None [] [] []) last t end
 
-maybe_there : (b : Bool) (p : Parameters) (v : ℕ) (z y : List Bool) → b ≡ true → IsWord p.references v z y → MaybeWord b p.references v z y
-maybe_there true p v z y e h = h
-maybe_there false p v z y e h = absurd cc
-
-maybe_not : (b : Bool) (p : Parameters) (z : List Bool) → b ≡ false → MaybeWord b p.references 0 z z
-maybe_not true p z e = absurd cc
-maybe_not false p z e = (refl, refl)
-
-first_due : (p : Parameters) (c : Context) → next p c nothing_yet ≡ need.Read field.Outdegree p.outdegrees
-unfolding next
-first_due p c = refl
-
-reference_due : (p : Parameters) (c : Context) (d : ℕ) → eqb d 0 ≡ false → ltb 0 p.window ≡ true → next p c (state d None None [] false None [] [] []) ≡ need.Read field.Reference p.references
-unfolding next
-reference_due p c d some window = rw (some, window) refl
-
 pub head_of : (p : Parameters) (c : Context) (bits : List Bool) (at : ℕ) (t : SoFar) (end : ℕ) → next p c t ≡ need.End → LeadsTo p c bits nothing_yet at t end → Head p c bits at t end
 unfolding after refusal
 head_of p c bits at t end ends on =
-    let f = step_of p c bits nothing_yet at field.Outdegree p.outdegrees t end (first_due p c) ends on in
+    let f = step_of p c bits nothing_yet at field.Outdegree p.outdegrees t end (outdegree_due p c) ends on in
     elim (cases_Bool (eqb f.v 0)) [
       | inl empty ↦ record {
         d = f.v;
@@ -198,7 +186,7 @@ head_of p c bits at t end ends on =
         outdegree_stands = f.stands;
         reference = 0;
         last = f.mid;
-        reference_stands = maybe_not (ltb 0 f.v && ltb 0 p.window) p (drop f.mid bits) (let none : ltb 0 f.v ≡ false = le-ltb 0 f.v (let e = eqb-true f.v 0 empty in omega (arith, e)) in rw none refl);
+        reference_stands = maybe_not (ltb 0 f.v && ltb 0 p.window) p.references (drop f.mid bits) (let none : ltb 0 f.v ≡ false = le-ltb 0 f.v (let e = eqb-true f.v 0 empty in omega (arith, e)) in rw none refl);
         near = omega arith;
         r = None;
         r_is = refl;
@@ -213,7 +201,7 @@ head_of p c bits at t end ends on =
           outdegree_stands = f.stands;
           reference = 0;
           last = f.mid;
-          reference_stands = maybe_not (ltb 0 f.v && ltb 0 p.window) p (drop f.mid bits) (rw no_window (no_and (ltb 0 f.v)));
+          reference_stands = maybe_not (ltb 0 f.v && ltb 0 p.window) p.references (drop f.mid bits) (rw no_window (no_and (ltb 0 f.v)));
           near = omega arith;
           r = None;
           r_is = refl;
@@ -222,16 +210,16 @@ head_of p c bits at t end ends on =
           on = f.on;
         }
         | inl window ↦
-            let g = step_of p c bits (state f.v None None [] false None [] [] []) f.mid field.Reference p.references t end (reference_due p c f.v some window) ends f.on in
-            let above : ltb 0 f.v ≡ true = lt-ltb 0 f.v (let e : f.v ≡ 0 → ⊥ = eqb-false f.v 0 some in omega (arith, e)) in
-            let near : g.v ≤ min p.window c.page = ltb-false _ _ (first_reason _ _ g.fine) in
+            let above : 0 < f.v = let e : f.v ≡ 0 → ⊥ = eqb-false f.v 0 some in omega (arith, e) in
+            let g = step_of p c bits (of_outdegree f.v) f.mid field.Reference p.references t end (reference_due p c f.v above (ltb-true 0 p.window window)) ends f.on in
+            let near : g.v ≤ min p.window c.page = reference_near p c (of_outdegree f.v) g.v g.fine in
             record {
               d = f.v;
               mid = f.mid;
               outdegree_stands = f.stands;
               reference = g.v;
               last = g.mid;
-              reference_stands = maybe_there (ltb 0 f.v && ltb 0 p.window) p g.v (drop f.mid bits) (drop g.mid bits) (rw (above, window) refl) g.stands;
+              reference_stands = maybe_there (ltb 0 f.v && ltb 0 p.window) p.references g.v (drop f.mid bits) (drop g.mid bits) (rw (lt-ltb 0 f.v above, window) refl) g.stands;
               near = omega (arith, near);
               r = Some g.v;
               r_is = refl;
@@ -245,7 +233,3 @@ head_of p c bits at t end ends on =
     no_and : (b : Bool) → (b && false) ≡ false
     no_and true = refl
     no_and false = refl
-
-    first_reason : (b e : Bool) → cond b (Some kind.Range) (cond e (Some kind.Chain) None) ≡ None → b ≡ false
-    first_reason true e h = absurd cc
-    first_reason false e h = refl

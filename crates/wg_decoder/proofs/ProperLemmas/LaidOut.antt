@@ -19,7 +19,8 @@ use Rattle.wg_codes.specs.Standing.{IsWord}
 use Rattle.wg_decoder.specs.Proper.Laid.{MaybeWord, WordsTo, list_or_none, Laid}
 use Rattle.wg_decoder.specs.Proper.{unlimited, context_on, IsRecord}
 use Rattle.wg_decoder.proofs.ProperLemmas.Taking.{all_copied}
-use Rattle.wg_decoder.proofs.ProperLemmas.Going.{step_of, check_of, stop_of, end_of, state, copy, HasHead, Settled, next_block_count, next_check, one_reason}
+use Rattle.wg_grammar.proofs.Along.{not_first}
+use Rattle.wg_decoder.proofs.ProperLemmas.Going.{step_of, check_of, stop_of, end_of, state, copy, HasHead, Settled, next_block_count, next_check}
 use Rattle.wg_decoder.proofs.ProperLemmas.Heads.{blocks_go, Tail, tail_of, source_is, Head, head_of}
 use Rattle.wg_decoder.specs.Stages.Leading.{LeadsTo}
 
@@ -133,7 +134,7 @@ middle_referring p page below bits d r last t end h some few ends refers on =
       blocks_stand = g.stand;
       blocks_are = refl;
       within = g.within;
-      copied_fit = ltb-false _ _ (one_reason _ kind.Copied e.0);
+      copied_fit = ltb-false _ _ (not_first _ kind.Copied None e.0).0;
       tail = tail;
     }
   where

@@ -17,7 +17,8 @@ use Rattle.wg_graph.proofs.Copies.{sum_push}
 use Rattle.wg_codes.specs.Fold.{number_of_gap}
 use Rattle.wg_intervals.specs.Stored.{IsInterval}
 use Rattle.wg_decoder.specs.Proper.Laid.{ResidualsTo, IntervalsTo}
-use Rattle.wg_decoder.proofs.ProperLemmas.Going.{step_of, stop_of, end_of, state, copy, Settled, NoCount, Filled, next_length, next_left, next_residual, page_of, one_reason}
+use Rattle.wg_grammar.proofs.Along.{not_first}
+use Rattle.wg_decoder.proofs.ProperLemmas.Going.{step_of, stop_of, end_of, state, copy, Settled, NoCount, Filled, next_length, next_left, next_residual, page_of}
 use Rattle.wg_decoder.specs.Stages.Leading.{LeadsTo}
 use Rattle.wg_decoder.proofs.InsideLists.{past_of, past_push}
 
@@ -147,7 +148,7 @@ intervals_go (suc count) p c bits d r n bs k i ls ns at t end h no_count few end
     let on_left : LeadsTo p c bits (state d r n bs k i (ls ++ l ∷ []) ns []) f.mid t end = subst (λ (j : ℕ). LeadsTo p c bits (state d r n bs k i (ls ++ j ∷ []) ns []) f.mid t end) left_same f.on in
     let length_due : next p c (state d r n bs k i (ls ++ l ∷ []) ns []) ≡ need.Read field.Length Gamma = next_length p c d r n bs k i (ls ++ l ∷ []) ns [] h no_count (lt-ltb (length ns) (length (ls ++ l ∷ [])) (one_longer _ _ _ same (length_push ls l))) in
     let g = step_of p c bits (state d r n bs k i (ls ++ l ∷ []) ns []) f.mid field.Length Gamma t end length_due ends on_left in
-    let neither = one_reason _ kind.Range g.fine in
+    let neither = (not_first _ kind.Range None g.fine).0 in
     let room : g.v + p.interval ≤ d - length (copy c r bs) - (sum ns + 0) = ltb-false _ _ (or_left _ _ neither) in
     let within : last_of (ls ++ l ∷ []) + g.v + p.interval ≤ p.nodes = ltb-false _ _ (or_right _ _ neither) in
     let m : ℕ = g.v + p.interval in

@@ -17,11 +17,14 @@ use Rattle.wg_grammar.specs.Refusal.{refusal, passes}
 use Rattle.wg_grammar.specs.Members.{list_of, is_covered}
 use Rattle.wg_grammar.specs.Record.{Whole, Stands, Fields, ReadsRecord}
 use Rattle.wg_grammar.specs.Tally.{tally}
-use Rattle.wg_grammar.proofs.Tallies.{due, need_follows}
+use Rattle.wg_grammar.proofs.Along.{not_first, read_or_kept, read_reference, kept_along}
+use Rattle.wg_grammar.proofs.Chain.{field_of, tests}
+use Rattle.wg_grammar.proofs.Orderly.{next_tested}
+use Rattle.wg_grammar.proofs.Tallies.{due_of}
 use Rattle.wg_graph.specs.Numbers.{is_in, numbers_where}
 use Rattle.wg_graph.specs.Copied.{copied_members}
 use Rattle.wg_decoder.specs.Answer.{context_at}
-use Rattle.wg_decoder.proofs.HeadLemmas.{first_reason, reference_near}
+use Rattle.wg_decoder.proofs.HeadLemmas.{reference_near}
 use Rattle.wg_decoder.specs.Proper.{behind_of, IsRecord}
 
 -- ---- the reference is read once, and is near
@@ -29,47 +32,16 @@ use Rattle.wg_decoder.specs.Proper.{behind_of, IsRecord}
 abbrev pub Keeps : SoFar → SoFar → Type 0
 Keeps s t = (s.reference ≡ None) ⊎ (s.reference ≡ t.reference)
 
-read_or_kept : (p : Parameters) (c : Context) (s : SoFar) (f : Field) (v : ℕ) → ((after p c s f v).reference ≡ s.reference) ⊎ (f ≡ field.Reference)
-unfolding after
-read_or_kept p c s field.Outdegree v = inl refl
-read_or_kept p c s field.Reference v = inr refl
-read_or_kept p c s field.BlockCount v = inl refl
-read_or_kept p c s field.Block v = inl refl
-read_or_kept p c s field.Copied v = inl refl
-read_or_kept p c s field.IntervalCount v = inl refl
-read_or_kept p c s field.Left v = inl refl
-read_or_kept p c s field.Length v = inl refl
-read_or_kept p c s field.Residual v = inl refl
-read_or_kept p c s field.Record v = inl refl
-
--- a reference that was just read
-pub read_reference : (p : Parameters) (c : Context) (s : SoFar) (f : Field) (v : ℕ) → f ≡ field.Reference → (after p c s f v).reference ≡ Some v
-unfolding after
-read_reference p c s f v e = rw e refl
-
-after_keeps : (p : Parameters) (c : Context) (s : SoFar) (f : Field) (v : ℕ) → (f ≡ field.Reference → s.reference ≡ None) → Keeps s (after p c s f v)
-after_keeps p c s f v due = elim (read_or_kept p c s f v) [ inl kept ↦ inr (sym kept) | inr e ↦ inl (due e) ]
-
-to_state : (s u w : SoFar) → w ≡ u → Keeps s u → Keeps s w
-to_state s u w e (inl h) = inl h
-to_state s u w e (inr h) = inr (h ∙ ap (λ (x : SoFar). x.reference) (sym e))
-
-reference_due : (p : Parameters) (c : Context) (s : SoFar) (f : Field) (code : _) → next p c s ≡ need.Read f code → f ≡ field.Reference → s.reference ≡ None
-reference_due p c s f code is e = due (tally p c s) field.Reference code (need_follows (tally p c s) p c s refl ∙ is ∙ ap (λ (g : Field). need.Read g code) e)
-
-stands_keep : (m : Need) (p : Parameters) (c : Context) (bits : List Bool) (s : SoFar) (at v mid : ℕ) (u : SoFar) → next p c s ≡ m → Stands m p c bits s at v mid u → Keeps s u
-stands_keep (need.Read f code) p c bits s at v mid u is x = to_state s (after p c s f v) u x.3 (after_keeps p c s f v (reference_due p c s f code is))
-stands_keep need.Check p c bits s at v mid u is x = to_state s (after p c s field.Copied v) u x.3 (after_keeps p c s field.Copied v (λ e. absurd cc))
-stands_keep need.End p c bits s at v mid u is x = absurd x
-
-join : (s u t : SoFar) → Keeps s u → Keeps u t → Keeps s t
-join s u t (inl h) k = inl h
-join s u t (inr h) (inl k) = inl (h ∙ k)
-join s u t (inr h) (inr k) = inr (h ∙ k)
+keeps_after : (p : Parameters) (c : Context) (s u : SoFar) (f : Field) (v : ℕ) → field_of (next p c u) ≡ f → Keeps s u → Keeps s (after p c u f v)
+keeps_after p c s u f v is (inl none) = inl none
+keeps_after p c s u f v is (inr same) =
+    elim (read_or_kept p c u f v) [
+      | inl kept ↦ inr (same ∙ sym kept)
+      | inr e ↦ inl (same ∙ due_of (tally p c u) field.Reference (subst (tests (tally p c u)) (is ∙ e) (next_tested p c u)))
+    ]
 
 pub fields_keep : (p : Parameters) (c : Context) (bits : List Bool) (s : SoFar) (at : ℕ) (vs : List ℕ) (t : SoFar) (end : ℕ) → Fields p c bits s at vs t end → Keeps s t
-fields_keep p c bits s at [] t end h = inr (ap (λ (x : SoFar). x.reference) (sym h.0))
-fields_keep p c bits s at (v ∷ vs) t end h = join s h.0 t (stands_keep (next p c s) p c bits s at v h.1 h.0 refl h.2) (fields_keep p c bits h.0 h.1 vs t end h.3)
+fields_keep p c bits s at vs t end h = kept_along p c bits (Keeps s) (λ u f v is fine x. keeps_after p c s u f v is x) s at vs t end h (inr refl)
 
 after_near : (p : Parameters) (c : Context) (s : SoFar) (f : Field) (v : ℕ) → refusal p c s f v ≡ None → value_or_0 s.reference ≤ min p.window c.page → value_or_0 (after p c s f v).reference ≤ min p.window c.page
 after_near p c s f v fine near =
@@ -78,24 +50,10 @@ after_near p c s f v fine near =
       | inr e ↦ omega (arith, ap value_or_0 (read_reference p c s f v e), reference_near p c s v (subst (λ (g : Field). refusal p c s g v ≡ None) e fine))
     ]
 
-near_of : (p : Parameters) (c : Context) (u w : SoFar) → w ≡ u → value_or_0 u.reference ≤ min p.window c.page → value_or_0 w.reference ≤ min p.window c.page
-near_of p c u w e near = subst (λ (x : SoFar). value_or_0 x.reference ≤ min p.window c.page) (sym e) near
-
-stands_near : (m : Need) (p : Parameters) (c : Context) (bits : List Bool) (s : SoFar) (at v mid : ℕ) (u : SoFar) → Stands m p c bits s at v mid u → value_or_0 s.reference ≤ min p.window c.page → value_or_0 u.reference ≤ min p.window c.page
-stands_near (need.Read f code) p c bits s at v mid u x near = near_of p c (after p c s f v) u x.3 (after_near p c s f v x.2 near)
-stands_near need.Check p c bits s at v mid u x near = near_of p c (after p c s field.Copied v) u x.3 (after_near p c s field.Copied v x.2 near)
-stands_near need.End p c bits s at v mid u x near = absurd x
-
 pub fields_near : (p : Parameters) (c : Context) (bits : List Bool) (s : SoFar) (at : ℕ) (vs : List ℕ) (t : SoFar) (end : ℕ) → Fields p c bits s at vs t end → value_or_0 s.reference ≤ min p.window c.page → value_or_0 t.reference ≤ min p.window c.page
-fields_near p c bits s at [] t end h near = near_of p c s t h.0 near
-fields_near p c bits s at (v ∷ vs) t end h near = fields_near p c bits h.0 h.1 vs t end h.3 (stands_near (next p c s) p c bits s at v h.1 h.0 h.2 near)
+fields_near p c bits = kept_along p c bits (λ u. value_or_0 u.reference ≤ min p.window c.page) (λ u f v is fine x. after_near p c u f v fine x)
 
 -- ---- the same fields, validated with other limits and among other pages
-
-second_reason : (k : Kind) (b e : Bool) → cond b (Some kind.Range) (cond e (Some k) None) ≡ None → e ≡ false
-second_reason k true e h = absurd cc
-second_reason k false true h = absurd cc
-second_reason k false false h = refl
 
 abbrev other_limits : Parameters → Option ℕ → ℕ → Parameters
 other_limits p chain arcs = record p { chain = chain; arcs = arcs }
@@ -134,10 +92,11 @@ module _ (p : Parameters) (c : Context) (chain : Option ℕ) (arcs : ℕ) (other
   pub same_refusal : Room → (s : SoFar) (f : Field) (v : ℕ) → Same s → (f ≡ field.Reference → Deep v) → refusal p c s f v ≡ None → refusal (other_limits p chain arcs) (context_at c.page 0 others) s f v ≡ None
   unfolding refusal
   same_refusal room s field.Outdegree v e deep fine =
-      let low = first_reason kind.Total (ltb p.nodes v) (ltb p.arcs (c.arcs_before + v)) fine in
-      let few = second_reason kind.Total (ltb p.nodes v) (ltb p.arcs (c.arcs_before + v)) fine in
-      rw (low, le-ltb arcs (0 + v) (omega (arith, room v (ltb-false p.nodes v low) (ltb-false p.arcs (c.arcs_before + v) few)))) refl
-  same_refusal room s field.Reference v e deep fine = rw (first_reason kind.Chain _ _ fine, deep refl (second_reason kind.Chain _ _ fine)) refl
+      let low = not_first (ltb p.nodes v) kind.Range _ fine in
+      let few = (not_first (ltb p.arcs (c.arcs_before + v)) kind.Total None low.1).0 in
+      rw (low.0, le-ltb arcs (0 + v) (omega (arith, room v (ltb-false p.nodes v low.0) (ltb-false p.arcs (c.arcs_before + v) few)))) refl
+  same_refusal room s field.Reference v e deep fine =
+      let low = not_first (ltb (min p.window c.page) v) kind.Range _ fine in rw (low.0, deep refl (not_first _ _ None low.1).0) refl
   same_refusal room s field.BlockCount v e deep fine = rw (← e) fine
   same_refusal room s field.Block v e deep fine = rw (← e) fine
   same_refusal room s field.Copied v e deep fine = rw (← e) fine
