@@ -1,10 +1,9 @@
 -- Bits stand for at most one graph, and for a graph or a first fault.
-use Rattle.std.proofs.Common.{◌≡◌, ℕ, zero, suc, ◌+◌, ◌-◌, ◌<◌, ◌≤◌, ◌⊎◌, Bool, true, false, cond, List, [], ◌∷◌, length, drop, get_or, Some, None, Result, Ok, Err, refl, sym, ap, subst, ◌∙◌, arith, inl, inr, length-drop}
+use Rattle.std.proofs.Common.{◌≡◌, ℕ, zero, suc, ◌+◌, ◌-◌, ◌<◌, ◌≤◌, ◌⊎◌, Bool, true, false, List, [], ◌∷◌, length, drop, get_or, None, Result, Ok, Err, refl, sym, ap, subst, ◌∙◌, arith, inl, inr, length-drop}
 use Rattle.std.proofs.lemmas.Bool.{cases_eq, cases_Bool, cases_lt, ltb-false}
 use Rattle.std.proofs.lemmas.List.Sums.{sum_by-cons}
 use Rattle.wg_grammar.specs.declared.fault.Field.{Field}
 use Rattle.wg_grammar.specs.declared.fault.Field.TheVariants as field
-use Rattle.wg_grammar.specs.declared.fault.Kind.TheVariants as kind
 use Rattle.wg_grammar.specs.declared.need.Need.{Need}
 use Rattle.wg_grammar.specs.declared.need.Need.TheVariants as need
 use Rattle.wg_grammar.specs.declared.fault.Fault.{Fault}

@@ -8,7 +8,6 @@ use Rattle.wg_graph.specs.Copied.{is_copied, copied_members}
 use Rattle.wg_graph.proofs.Copies.{copied_count, sum_push, at_positions_all}
 use Rattle.wg_grammar.specs.declared.fault.Field.{Field}
 use Rattle.wg_grammar.specs.declared.fault.Field.TheVariants as field
-use Rattle.wg_grammar.specs.declared.fault.Kind.{Kind}
 use Rattle.wg_grammar.specs.declared.fault.Kind.TheVariants as kind
 use Rattle.wg_grammar.specs.declared.need.Need.TheVariants as need
 use Rattle.wg_grammar.specs.declared.progress.Referenced.{Referenced}

@@ -9,7 +9,6 @@ use Rattle.wg_params.specs.Parameters.{Parameters}
 use Rattle.wg_codes.specs.Words.{word}
 use Rattle.wg_grammar.specs.declared.fault.Field.{Field}
 use Rattle.wg_grammar.specs.declared.fault.Field.TheVariants as field
-use Rattle.wg_grammar.specs.declared.fault.Kind.{Kind}
 use Rattle.wg_grammar.specs.declared.fault.Kind.TheVariants as kind
 use Rattle.wg_grammar.specs.declared.need.Need.{Need}
 use Rattle.wg_grammar.specs.declared.need.Need.TheVariants as need
