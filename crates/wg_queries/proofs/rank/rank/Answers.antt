@@ -1,6 +1,7 @@
 use Rattle.std.proofs.Common.{◌≡◌, ◌∙◌, inl, inr, Ok, Err, refl, subst}
 use Rattle.wg_outside.proofs.FilesLemmas.{none_falls-trans}
 use Rattle.wg_readings.proofs.LoadLemmas.{graph_loaded, graph_unloaded}
+use Rattle.wg_outcomes.specs.declared.status.Status.TheVariants.{Memory}
 use Rattle.wg_outcomes.specs.Answers.{HasOutput}
 use Rattle.wg_rank.specs.Rounds.{bounds_after}
 use Rattle.wg_outcomes.specs.Ranked.{ranking_text}
@@ -105,7 +106,7 @@ returns-in_err-given-clause-anywhere g c =
 pub returns-in_err-first-clause-anywhere : goal.returns-in_err-first-clause-anywhere
 returns-in_err-first-clause-anywhere g c =
     ranks_none g.D.Depot g.O.Sink _ _ _ _ _ _ _ _ _ _ c.from_residual-in_err-first.ensures.1
-    (c.in_ok-given.ensures.reads.same ∙ c.in_ok-bytes.ensures.same ∙ c.in_ok-params.ensures.same) (undone_room _ refl)
+    (c.in_ok-given.ensures.reads.same ∙ c.in_ok-bytes.ensures.same ∙ c.in_ok-params.ensures.same) (undone_room (record { status = Memory; promised = 0 }) refl)
 
 pub returns-in-None-clause-anywhere : goal.returns-in-None-clause-anywhere
 returns-in-None-clause-anywhere g c =
