@@ -34,8 +34,10 @@ pub fn print_list<S: Sink>(
     ensures later { S.later sink.old sink.new }
     ensures refusals { SinkRefusals ⟦<S as Sink>⟧ sink.old sink.new result }
 {
-    let mut start = [0; MOST_START];
-    let count = write_start(page, &mut start);
+    let mut digits = [0; MOST_START];
+    let count = write_start(page, &mut digits);
+    // A copy that no other call has been lent, so that it can stay in registers.
+    let start = digits;
     for v in list {
         lines.pair_after(sink, &start, count, *v)?;
     }
