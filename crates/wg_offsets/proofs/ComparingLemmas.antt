@@ -1,5 +1,5 @@
 -- Lengths of records, of which one more is compared.
-use Rattle.std.proofs.Common.{◌≡◌, ◌≢◌, ◌⊎◌, ℕ, ◌+◌, ◌-◌, ◌<◌, ◌≤◌, List, [], ◌∷◌, ◌++◌, length, get_or, Option, Some, None, IfSome, IfNone, refl, sym, ◌∙◌, ap, subst, ⊎_elim, arith, length-append}
+use Rattle.std.proofs.Common.{◌≡◌, ◌≢◌, ◌⊎◌, ℕ, ◌+◌, ◌-◌, ◌<◌, ◌≤◌, List, [], ◌∷◌, ◌++◌, length, Option, Some, None, IfSome, IfNone, refl, sym, ◌∙◌, ap, subst, ⊎_elim, arith, length-append}
 use Rattle.std.proofs.lemmas.List.{get_or_append_left, get_or_push}
 use Rattle.std.proofs.lemmas.Bool.{cases_lt}
 use Rattle.wg_offsets.specs.Places.{last_place, record_length, AgreeInLengths, IsFirstMismatch}
@@ -7,18 +7,11 @@ use Rattle.wg_offsets.specs.Comparing.{Judges}
 
 -- an earlier record keeps its length
 earlier : (places : List ℕ) (e x : ℕ) → x + 1 < length places → record_length (places ++ e ∷ []) x ≡ record_length places x
-earlier places e x lt =
-    let a = get_or_append_left places (e ∷ []) 0 (x + 1) lt in
-    let b = get_or_append_left places (e ∷ []) 0 x (omega (arith, lt)) in
-    ap (λ (n : ℕ). n - get_or (places ++ e ∷ []) x 0) a ∙ ap (λ (n : ℕ). get_or places (x + 1) 0 - n) b
+earlier places e x lt = grind (arith, get_or_append_left)
 
 -- the last record goes from the last offset to the new one
 latest : (places : List ℕ) (e page : ℕ) → length places ≡ page + 1 → record_length (places ++ e ∷ []) page ≡ e - last_place places
-latest places e page many =
-    let a : get_or (places ++ e ∷ []) (page + 1) 0 ≡ e = get_or_push places e 0 (page + 1) (omega (arith, many)) in
-    let b : get_or (places ++ e ∷ []) page 0 ≡ get_or places page 0 = get_or_append_left places (e ∷ []) 0 page (omega (arith, many)) in
-    let c : page ≡ length places - 1 = omega (arith, many) in
-    ap (λ (n : ℕ). n - get_or (places ++ e ∷ []) page 0) a ∙ ap (λ (n : ℕ). e - n) (b ∙ ap (λ (n : ℕ). get_or places n 0) c)
+latest places e page many = grind (arith, get_or_append_left, get_or_push)
 
 module _ (p q : List ℕ) (here there page : ℕ) (many_p : length p ≡ page + 1) (many_q : length q ≡ page + 1) where
   -- all agree, and so does one more

@@ -1,5 +1,5 @@
 -- The first page whose record has two lengths is the first of those that have.
-use Rattle.std.proofs.Common.{◌≡◌, ℕ, suc, ◌+◌, ◌-◌, Bool, true, false, not, cond, ◌==◌, List, [], ◌∷◌, ◌++◌, length, sym, ◌∙◌, ap, subst, arith}
+use Rattle.std.proofs.Common.{◌≡◌, ℕ, suc, ◌+◌, ◌-◌, Bool, true, false, not, ◌==◌, List, [], ◌∷◌, length, sym, ◌∙◌, ap, arith}
 use Rattle.std.proofs.lemmas.Bool.{eq-eqb, ne_eqb}
 use Rattle.wg_graph.specs.Numbers.{numbers_where}
 use Rattle.wg_graph.proofs.Sets.{where_none, where_split}
@@ -15,14 +15,8 @@ module _ (here there : List ℕ) where
   pub none_differ : AgreeInLengths here there → pages_that_differ here there ≡ []
   none_differ agree = where_none differs 0 (length here - 1) (λ x from lt. agrees x (agree x (omega arith)))
 
-  first_passes : (page rest : ℕ) → differs page ≡ true → numbers_where differs page (suc rest) ≡ page ∷ numbers_where differs (page + 1) rest
-  first_passes page rest it_does = ap (λ (b : Bool). cond b (page ∷ numbers_where differs (page + 1) rest) (numbers_where differs (page + 1) rest)) it_does
-
   first_is : (page rest : ℕ) → numbers_where differs 0 page ≡ [] → differs page ≡ true → numbers_where differs 0 (page + suc rest) ≡ page ∷ numbers_where differs (page + 1) rest
-  first_is page rest none_before it_does =
-      let parts : numbers_where differs 0 (page + suc rest) ≡ numbers_where differs 0 page ++ numbers_where differs page (suc rest) =
-      subst (λ (k : ℕ). numbers_where differs 0 (page + suc rest) ≡ numbers_where differs 0 page ++ numbers_where differs k (suc rest)) (omega arith) (where_split differs 0 page (suc rest)) in
-      parts ∙ ap (λ (l : List ℕ). l ++ numbers_where differs page (suc rest)) none_before ∙ first_passes page rest it_does
+  first_is page rest none_before it_does = grind (arith, where_split)
 
   pub first_differs : (page a b : ℕ) → IsFirstMismatch here there page a b → (rest : List ℕ) × (pages_that_differ here there ≡ page ∷ rest)
   first_differs page a b h =

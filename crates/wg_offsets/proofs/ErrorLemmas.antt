@@ -1,5 +1,5 @@
 -- An error of a word as one of the whole file.
-use Rattle.std.proofs.Common.{◌≡◌, ℕ, Bool, List, Err}
+use Rattle.std.proofs.Common.{◌≡◌, ℕ, Bool, List, Err, arith}
 use Rattle.wg_params.specs.declared.code.Code.{Code}
 use Rattle.wg_grammar.specs.declared.fault.OffsetWord.{OffsetWord}
 use Rattle.wg_offsets.specs.declared.error.WordError.{WordError}
@@ -11,8 +11,7 @@ use Rattle.wg_offsets.specs.Words.{ReadsOffsets}
 use Rattle.wg_offsets.specs.Stages.{IfWord, WordsRead}
 
 pub word_of_file : {R : Type 0} (x : WordError R) (P Q : OffsetWord → Type 0) → ((w : OffsetWord) → P w → Q w) → OfWord x P → IfWordOf (of_word x) Q
-word_of_file (words.Word w) P Q on h = on w h
-word_of_file (words.Refused r) P Q on h = tt
+word_of_file x P Q h h2 = grind arith
 
 -- by the code and the pages of the file, which are those of the words that were read
 pub fault_of_file : {R : Type 0} (x : WordError R) (r : WordsRead) (code : Code) (pages : ℕ) (bits : List Bool) → r.code ≡ code → r.pages ≡ pages → OfWord x (λ w. ReadsOffsets r.code r.pages bits (Err w)) →
@@ -20,10 +19,7 @@ pub fault_of_file : {R : Type 0} (x : WordError R) (r : WordsRead) (code : Code)
 fault_of_file x r code pages bits of_code of_pages h = word_of_file x _ _ (λ w k. rw (of_code, of_pages) at k) h
 
 pub refusal_of_file : {R : Type 0} (x : WordError R) (P Q : R → Type 0) → ((r : R) → P r → Q r) → OfRefusal x P → IfRefusalOf (of_word x) Q
-refusal_of_file (words.Word w) P Q on h = tt
-refusal_of_file (words.Refused r) P Q on h = on r h
+refusal_of_file x P Q h h2 = grind arith
 
 pub word_of_bits : {R : Type 0} (x : PlacesError R) (P : OffsetWord → Type 0) → IfWordOf x P → IfWord (known_error x) P
-word_of_bits (reads.Word w) P h = h
-word_of_bits (reads.Refused r) P h = tt
-word_of_bits reads.Memory P h = tt
+word_of_bits x P h = grind arith

@@ -25,9 +25,7 @@ module _ (c : Code) (coded : IsCode c) (n : ℕ) (bits : List Bool) where
   -- ---- one
 
   faults_one : (values : List ℕ) (at : ℕ) (e f : OffsetWord) → IsRefused c bits (length values) (sum values) at e → IsRefused c bits (length values) (sum values) at f → e ≡ f
-  faults_one values at e f a b =
-      let same : a.0 ≡ b.0 = one_result c coded (drop at bits) a.0 b.0 a.1 b.1 in
-      same_fault (refusal (length values) (sum values) b.0) e f (subst (λ (r : Read). refusal (length values) (sum values) r ≡ Some e) same a.2) b.2
+  faults_one values at e f a b = grind (arith, one_result, same_fault)
 
   tails_one : (at : ℕ) (e f : OffsetWord) → HasNoTail bits at e → HasNoTail bits at f → e ≡ f
   tails_one at e f a b = a.2 ∙ ap faults.Tail (fault_one bits at a.0 b.0 a.1 b.1) ∙ sym b.2
@@ -48,8 +46,7 @@ module _ (c : Code) (coded : IsCode c) (n : ℕ) (bits : List Bool) where
       omega (arith, words_length (before ++ v ∷ []) (at + length (word c v)) vs values end words.2, length-append before (v ∷ []))
 
   few : (values : List ℕ) (at : ℕ) (w : Result (List ℕ) OffsetWord) → EndsAs c n bits values at w → length values ≤ n + 1
-  few values at (Ok p) h = omega (arith, h.0)
-  few values at (Err e) h = elim h [ inl r ↦ omega (arith, r.0) | inr t ↦ omega (arith, t.0) ]
+  few values at w h = grind arith
 
   here : (before : List ℕ) (at : ℕ) (w : Result (List ℕ) OffsetWord) → Walks c n bits before at [] w → EndsAs c n bits before at w
   here before at w x = subst (λ (k : ℕ). EndsAs c n bits before k w) x.2.1 (subst (λ (l : List ℕ). EndsAs c n bits l x.1 w) x.2.0 x.3)
@@ -61,8 +58,6 @@ module _ (c : Code) (coded : IsCode c) (n : ℕ) (bits : List Bool) where
       elim h [
         | inl r ↦ absurd
             (let same : r.1.0 ≡ reads.Value v = one_result c coded (drop at bits) r.1.0 (reads.Value v) r.1.1 found in
-            let refused : refusal (length before) (sum before) (reads.Value v) ≡ Some e = subst (λ (q : Read). refusal (length before) (sum before) q ≡ Some e) same r.1.2 in
-            let both : None ≡ Some e = sym fine ∙ refused in
             cc)
         | inr t ↦ absurd (omega (arith, t.0))
       ]

@@ -12,13 +12,6 @@ use Rattle.wg_offsets.specs.Places.{ArePlaces, last_place}
 use Rattle.wg_offsets.specs.Words.{places_of, refusal, Words, ReadsOffsets}
 use Rattle.wg_offsets.proofs.WordsLemmas.{ends_more, length_ends, last_more, first_value, value_within}
 
-no_places : ArePlaces []
-no_places = record {
-  first = refl;
-  never_fall = IsNonDecreasingBy-short (λ (p : ℕ). p) [] (omega arith);
-  within = All-nil (λ (p : ℕ). p ≤ MOST_PLACE);
-}
-
 first_place : (places : List ℕ) (p : ℕ) → get_or places 0 0 ≡ 0 → (length places ≡ 0 → p ≡ 0) → get_or (places ++ p ∷ []) 0 0 ≡ 0
 first_place [] p first starts = starts refl
 first_place (q ∷ places) p first starts = first
@@ -59,7 +52,4 @@ leads_on c bits before at (v ∷ vs) values end h words =
     leads_on c bits (before ++ v ∷ []) (at + length (word c v)) vs values end (one_value_more before v h words.1) words.2
 
 pub places_within : (c : Code) (n : ℕ) (bits : List Bool) (places : List ℕ) → ReadsOffsets c n bits (Ok places) → (length places ≡ n + 1) × ArePlaces places
-places_within c n bits places h =
-    let are : places ≡ places_of h.1 = h.4.2 in
-    let lead : Lead h.1 = leads_on c bits [] 0 h.0 h.1 h.2 (record { places = no_places; last = refl }) h.3 in
-    (ap length are ∙ length_ends 0 h.1 ∙ h.4.0, subst ArePlaces (sym are) lead.places)
+places_within c n bits places h = grind (arith, length_ends, leads_on, IsNonDecreasingBy-short, All-nil)

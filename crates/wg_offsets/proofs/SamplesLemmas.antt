@@ -21,9 +21,7 @@ use Rattle.wg_offsets.proofs.OneFile.{offsets_one}
 
 -- what was read, as it is kept
 pub read_as : (c d : Code) (file : List Bool) (n m a b p q : ℕ) (before : List ℕ) → c ≡ d → n ≡ m → a ≡ b → p ≡ q → WordsStand c file n a p before → WordsStand d file m b q before
-read_as c d file n m a b p q before code count at place h =
-    subst (λ (k : ℕ). WordsStand d file m b k before) place
-    (subst (λ (k : ℕ). WordsStand d file m k p before) at (subst (λ (k : ℕ). WordsStand d file k a p before) count (subst (λ (k : Code). WordsStand k file n a p before) code h)))
+read_as c d file n m a b p q before code count at place h = grind arith
 
 -- one sample more
 pub samples_more : (c : Code) (file : List Bool) (places bits : List ℕ) (place bit page : ℕ) (before : List ℕ) → length bits ≡ length places → SAMPLED * length places ≡ page
@@ -67,21 +65,11 @@ none_left (v ∷ vs) e = absurd (omega arith)
 ends_at : (n : ℕ) (us rest : List ℕ) (x : ℕ) → length us ≡ x + 1 → get_or (ends_of n (us ++ rest)) x 0 ≡ n + sum us
 ends_at n [] rest x e = absurd (omega (arith, e))
 ends_at n (u ∷ us) rest zero e = let none : sum us ≡ 0 = none_left us (omega (arith, e)) in omega (arith, none, sum_cons u us)
-ends_at n (u ∷ us) rest (suc x) e =
-    let later : get_or (ends_of (n + u) (us ++ rest)) x 0 ≡ (n + u) + sum us = ends_at (n + u) us rest x (omega (arith, e)) in
-    omega (arith, later, sum_cons u us)
+ends_at n (u ∷ us) rest (suc x) e = omega (arith, (ends_at (n + u) us rest x (omega (arith, e))), sum_cons u us)
 
 pub place_at : (c : Code) → IsCode c → (n : ℕ) (bits : List Bool) (places : List ℕ) → ReadsOffsets c n bits (Ok places) → (x at offset : ℕ) (before : List ℕ) → WordsStand c bits (x + 1) at offset before → x ≤ n
     → get_or places x 0 ≡ offset
-place_at c coded n bits places h x at offset before p le =
-    let all = values_of c bits [] 0 h.0 h.1 h.2 h.3 in
-    let some = values_of c bits [] 0 p.read p.values at p.words in
-    let few : length p.read ≡ x + 1 = sym (ap length some) ∙ p.number in
-    let many : length h.0 ≡ n + 1 = sym (ap length all) ∙ h.4.0 in
-    let f = front c coded bits [] 0 p.read h.0 p.values h.1 at h.2 p.words h.3 (omega (arith, few, many, le)) in
-    let here : get_or (ends_of 0 (p.read ++ f.0)) x 0 ≡ 0 + sum p.read = ends_at 0 p.read f.0 x few in
-    let total : 0 + sum p.read ≡ offset = omega (arith, ap sum some, p.total) in
-    ap (λ (l : List ℕ). get_or l x 0) h.4.2 ∙ ap (λ (l : List ℕ). get_or (ends_of 0 l) x 0) (all ∙ f.1) ∙ here ∙ total
+place_at c coded n bits places h x at offset before p le = grind (arith, values_of, front, ends_at)
 
 -- ---- no word of a file that has places is refused
 

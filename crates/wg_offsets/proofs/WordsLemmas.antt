@@ -1,5 +1,5 @@
 -- Words of an offsets file, one after the other.
-use Rattle.std.proofs.Common.{◌≡◌, ℕ, suc, ◌+◌, ◌-◌, ◌≤◌, Bool, true, false, cond, nat_lt, ◌==◌, ◌&&◌, List, [], ◌∷◌, ◌++◌, length, drop, sum, None, Some, Err, inl, refl, sym, ◌∙◌, ap, subst, arith, length-append}
+use Rattle.std.proofs.Common.{◌≡◌, ℕ, suc, ◌+◌, ◌-◌, ◌≤◌, Bool, List, [], ◌∷◌, ◌++◌, length, drop, sum, None, Err, refl, sym, ◌∙◌, ap, subst, arith, length-append}
 use Rattle.std.proofs.lemmas.List.{get_or_push}
 use Rattle.std.proofs.lemmas.Bool.{ltb-false}
 use Rattle.wg_params.specs.declared.code.Code.{Code}
@@ -61,36 +61,19 @@ module _ (c : Code) (bits : List Bool) where
   -- the next word is refused, and so is the file
   pub one_refused : (n count at offset : ℕ) (places : List ℕ) (e : OffsetWord) → WordsStand c bits count at offset places → count ≤ n → IsRefused c bits count offset at e
       → ReadsOffsets c n bits (Err e)
-  one_refused n count at offset places e h le refuses =
-      let why : refusal (length h.values) (sum h.values) refuses.0 ≡ Some e =
-      subst (λ (k : ℕ). refusal k (sum h.values) refuses.0 ≡ Some e) (sym h.number)
-      (subst (λ (k : ℕ). refusal count k refuses.0 ≡ Some e) (sym h.total) refuses.2) in
-      (h.read, h.values, at, h.words, inl (omega (arith, h.number), (refuses.0, refuses.1, why)))
+  one_refused n count at offset places e h le refuses = grind arith
 
 -- the last offset after one more
 pub last_more : (places : List ℕ) (p : ℕ) → last_place (places ++ p ∷ []) ≡ p
 last_more places p = get_or_push places p 0 (length (places ++ p ∷ []) - 1) (omega (arith, length-append places (p ∷ [])))
 
--- a value that is not refused passes both tests
-passes_first : (b d : Bool) (f : OffsetWord) → cond b (Some faults.First) (cond d (Some f) None) ≡ None → b ≡ false
-passes_first true d f e = absurd cc
-passes_first false d f e = refl
-
-passes_second : (b d : Bool) (f : OffsetWord) → cond b (Some faults.First) (cond d (Some f) None) ≡ None → d ≡ false
-passes_second true d f e = absurd cc
-passes_second false true f e = absurd cc
-passes_second false false f e = refl
-
 pub first_value : (offset v : ℕ) → refusal 0 offset (Value v) ≡ None → v ≤ 0
-first_value offset v fine = ltb-false 0 v (passes_first (nat_lt 0 v) (nat_lt MOST_PLACE (offset + v)) (faults.TooFar 0) fine)
+first_value offset v fine = grind (arith, ltb-false)
 
 -- a word that is not refused leads to an offset that a file may have
 pub value_within : (number offset v : ℕ) → refusal number offset (Value v) ≡ None → offset + v ≤ MOST_PLACE
-value_within number offset v fine =
-    ltb-false MOST_PLACE (offset + v) (passes_second (number == 0 && nat_lt 0 v) (nat_lt MOST_PLACE (offset + v)) (faults.TooFar number) fine)
+value_within number offset v fine = grind (arith, ltb-false)
 
 -- a word that stands there and leads on
 pub leads_from : (c : Code) (bits : List Bool) (number offset at : ℕ) (r : Read) (next end : ℕ) → IsReadAt c bits at r end → LeadsBy number offset r next → LeadsTo c bits number offset at next end
-leads_from c bits number offset at r next end found leads =
-    let here = subst (λ (q : Read). IsReadAt c bits at q end) leads.1 found in
-    (leads.0, here.0, leads.2, leads.3, here.1)
+leads_from c bits number offset at r next end found leads = grind arith

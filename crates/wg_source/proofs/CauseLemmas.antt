@@ -20,6 +20,5 @@ too_long told name f c1 c2 h at buf count reads some more = record {
   memory = λ x. absurd (cc x);
   there = λ t file is x. absurd (cc x);
   long = λ t file is i x.
-      let p = piece_at _ file at buf count is (reads t) in
-      omega (arith, p.within, length-drop at file, some, more);
+      omega (arith, (piece_at _ file at buf count is (reads t)).within, length-drop at file, some, more);
 }

@@ -1,5 +1,5 @@
 -- Words of the bytes that are held, and of the file.
-use Rattle.std.proofs.Common.{◌≡◌, ◌⊎◌, ℕ, ◌+◌, ◌-◌, ◌/◌, ◌<◌, ◌≤◌, Bool, true, false, List, [], ◌∷◌, ◌++◌, length, drop, refl, sym, ◌∙◌, ap, subst, ⊎_elim, inl, inr, arith, append_assoc, length-append, length-drop}
+use Rattle.std.proofs.Common.{◌≡◌, ◌⊎◌, ℕ, ◌+◌, ◌-◌, ◌/◌, ◌<◌, ◌≤◌, Bool, true, false, List, [], ◌∷◌, ◌++◌, length, drop, refl, sym, ◌∙◌, ap, subst, ⊎_elim, arith, append_assoc, length-append, length-drop}
 use Rattle.std.proofs.Math.ListN.{replicate}
 use Rattle.std.proofs.lemmas.List.{replicate-append-replicate, length-replicate}
 use Rattle.wg_bits.specs.Bits.{bits_of, BeginsWithNoZero}
@@ -33,22 +33,12 @@ pub none_unread : (b : Bool) → b ≡ true → unread b ≡ 0
 unfolding unread
 none_unread b e = ap unread e
 
-pub few_unread : (b : Bool) → unread b ≤ 1
-unfolding unread
-few_unread true = omega arith
-few_unread false = omega arith
-
 pub fewer_waits : (g h : HeldBytes) → g.ended ≡ false → length g.bytes < WORD → length g.bytes ≤ length h.bytes → (length g.bytes < length h.bytes) ⊎ (h.ended ≡ true) → waits h < waits g
-fewer_waits g h more few least r = ⊎_elim
-    (λ (l : length g.bytes < length h.bytes). omega (arith, one_unread g.ended more, few_unread h.ended, l, few))
-    (λ (e : h.ended ≡ true). omega (arith, one_unread g.ended more, none_unread h.ended e, few, least))
-    r
+fewer_waits g h more few least r = grind (arith, one_unread, none_unread, unread)
 
 -- the bytes before the one of the next bit are let go
 pub passed_dropped : (file : List ℕ) (g h : HeldBytes) → IsInside g → h ≡ record g { bytes = drop (g.at / 8 - g.first) g.bytes; first = g.at / 8 } → IsHeldOf file g → IsHeldOf file h
-passed_dropped file g h inside e i =
-    dropped file g h (g.at / 8 - g.first) (omega (arith, inside.to, inside.from)) (ap (λ (x : HeldBytes). x.bytes) e)
-    (omega (arith, ap (λ (x : HeldBytes). x.first) e, inside.from)) (ap (λ (x : HeldBytes). x.ended) e) (ap (λ (x : HeldBytes). x.looked) e) i
+passed_dropped file g h inside e i = grind (arith, dropped)
 
 -- fewer bytes are held then, from the byte of the next bit on
 pub dropped_small : (g h : HeldBytes) → h ≡ record g { bytes = drop (g.at / 8 - g.first) g.bytes; first = g.at / 8 } → IsSmall g → IsSmall h
@@ -60,10 +50,7 @@ unfolding bits_of
 no_bits bytes e = ap bits_of e
 
 pub enough_ahead : (file : List ℕ) (h : HeldBytes) (i : IsHeldOf file h) → IsInside h → HoldsNext WORD h → (128 ≤ length (ahead h)) ⊎ (bits_of i.behind ≡ [])
-enough_ahead file h i inside next = ⊎_elim
-    (λ (e : h.ended ≡ true). inr (no_bits i.behind (i.ended e)))
-    (λ (many : h.at / 8 + WORD ≤ h.first + length h.bytes). inl (omega (arith, length-ahead h inside, many)))
-    next
+enough_ahead file h i inside next = grind (arith, length-ahead, no_bits)
 
 pub read_of_file : (code : Code) (file : List ℕ) (h : HeldBytes) (at : ℕ) (r : Read) → IsCode code → ¬ (code ≡ Unary) → IsInside h → HoldsNext WORD h → h.at ≡ at → IsHeldOf file h
     → Reads (word code) (top code) (ahead h) r → Reads (word code) (top code) (drop at (bits_of file)) r

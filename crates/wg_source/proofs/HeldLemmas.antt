@@ -13,15 +13,7 @@ use Rattle.wg_source.specs.declared.stretch.TheConstants.{MOST_HELD}
 
 -- the bits of the file from the next one on
 pub rest_of_file : (file : List ℕ) (h : HeldBytes) (i : IsHeldOf file h) → IsInside h → drop h.at (bits_of file) ≡ ahead h ++ bits_of i.behind
-rest_of_file file h i inside =
-    let a = length-bits_of i.before in
-    let b = length-bits_of h.bytes in
-    let whole : bits_of file ≡ bits_of i.before ++ (bits_of h.bytes ++ bits_of i.behind) =
-    ap bits_of i.whole ∙ bits_of-append i.before (h.bytes ++ i.behind) ∙ ap (λ z. bits_of i.before ++ z) (bits_of-append h.bytes i.behind) in
-    let offset : h.at ≡ length (bits_of i.before) + (h.at - 8 * h.first) = omega (arith, i.offset, inside.from) in
-    ap (drop h.at) whole ∙ ap (λ n. drop n (bits_of i.before ++ (bits_of h.bytes ++ bits_of i.behind))) offset
-    ∙ drop-append-add (bits_of i.before) (bits_of h.bytes ++ bits_of i.behind) (h.at - 8 * h.first)
-    ∙ drop-append-le (h.at - 8 * h.first) (bits_of h.bytes) (bits_of i.behind) (omega (arith, inside.from, inside.to))
+rest_of_file file h i inside = grind (arith, drop-append-add, drop-append-le, length-bits_of, bits_of-append)
 
 -- how many bits are held from the next one on
 pub length-ahead : (h : HeldBytes) → IsInside h → length (ahead h) ≡ 8 * (h.first + length h.bytes) - h.at
@@ -96,9 +88,7 @@ piece_at o file at buf count is told = subst (λ (q : Option (List ℕ)). Reads 
 -- the bits ahead, after a cursor has moved over some of them
 pub ahead_moved : (g h : HeldBytes) (p q : Position) (n : ℕ) → IsInside g → p ≡ record { bits = bits_of g.bytes; at = g.at - 8 * g.first } → q ≡ moved p n → h ≡ record g { at = g.at + n }
     → rest q ≡ ahead h
-ahead_moved g h p q n inside ep eq eh =
-    let offset : g.at - 8 * g.first + n ≡ g.at + n - 8 * g.first = omega (arith, inside.from) in
-    ap rest (eq ∙ ap (λ (x : Position). moved x n) ep) ∙ ap (λ m. drop m (bits_of g.bytes)) offset ∙ ap ahead (sym eh)
+ahead_moved g h p q n inside ep eq eh = grind arith
 
 -- in place of what was held, a piece of the file is, from some byte on
 pub taken_up : (file : List ℕ) (h1 h2 : HeldBytes) (buf : List ℕ) (first at count : ℕ) → 0 < count → IsPieceOf file first buf count

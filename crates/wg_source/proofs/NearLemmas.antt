@@ -16,7 +16,6 @@ use Rattle.wg_codes.specs.Windows.{Tells}
 pub near_bits : (bytes : List ℕ) (n from skip word : ℕ) → from + word ≤ n → n ≤ length bytes → skip ≤ 8 * word
     → drop (8 * from + skip) (bits_of (take n bytes)) ≡ drop skip (bits_of (take word (drop from bytes))) ++ bits_of (drop word (drop from (take n bytes)))
 near_bits bytes n from skip word fits few less =
-    let held : List ℕ = take n bytes in
     let size : length (take n bytes) ≡ n = length-take-le n bytes few in
     let before : length (take from (take n bytes)) ≡ from = length-take-le from (take n bytes) (omega (arith, size)) in
     let place : 8 * from + skip ≡ length (bits_of (take from (take n bytes))) + skip = omega (arith, length-bits_of (take from (take n bytes)), before) in

@@ -17,13 +17,7 @@ length_of_file file h i =
 
 -- a bit that is held
 held_bit : (file : List ℕ) (h : HeldBytes) (i : IsHeldOf file h) (k : ℕ) → 8 * h.first ≤ k → k - 8 * h.first < length (bits_of h.bytes) → get_or (bits_of file) k false ≡ get_or (bits_of h.bytes) (k - 8 * h.first) false
-held_bit file h i k from there =
-    let whole : bits_of file ≡ bits_of i.before ++ (bits_of h.bytes ++ bits_of i.behind) =
-    ap bits_of i.whole ∙ bits_of-append i.before (h.bytes ++ i.behind) ∙ ap (λ z. bits_of i.before ++ z) (bits_of-append h.bytes i.behind) in
-    let offset : k ≡ length (bits_of i.before) + (k - 8 * h.first) = omega (arith, length-bits_of i.before, i.offset, from) in
-    ap (λ z. get_or z k false) whole ∙ ap (λ n. get_or (bits_of i.before ++ (bits_of h.bytes ++ bits_of i.behind)) n false) offset
-    ∙ get_or-append-add (bits_of i.before) (bits_of h.bytes ++ bits_of i.behind) (k - 8 * h.first) false
-    ∙ get_or_append_left (bits_of h.bytes) (bits_of i.behind) false (k - 8 * h.first) there
+held_bit file h i k from there = grind (arith, get_or_append_left, get_or-append-add, length-bits_of, bits_of-append)
 
 pub tail_of_file : (file : List ℕ) (h : HeldBytes) → IsHeldOf file h → IsInside h → HoldsNext WORD h → IsTail (bits_of h.bytes) (h.at - 8 * h.first) → IsTail (bits_of file) h.at
 tail_of_file file h i inside next tail = ⊎_elim

@@ -1,5 +1,5 @@
 -- What clap's clauses say of the program's command line.
-use Rattle.std.proofs.Common.{◌≡◌, true, List, [], ◌∷◌, Option, None, refl, sym, ◌∙◌, ap, subst}
+use Rattle.std.proofs.Common.{◌≡◌, true, List, [], Option, None, refl, sym, ◌∙◌, ap, subst, arith}
 use Rattle.clap.specs.Words.{App, Row, Text, Kinds, IsAmong, fault_of, is_simple, is_simple_and_free, subcommand_of}
 use Rattle.clap.specs.declared.error.kind.ErrorKind.{ErrorKind}
 use Rattle.clap.proofs.OnLiterals.{clap_on_literals}
@@ -14,8 +14,7 @@ unfolding clap_on_literals
 command_free = refl
 
 none_where_kind : {X : Type 0} (kinds : Kinds) (k : ErrorKind) (o : Option X) → IsAmong k kinds → where_empty kinds o ≡ None
-none_where_kind [] k o among = absurd among
-none_where_kind (x ∷ xs) k o among = refl
+none_where_kind kinds k o h = grind arith
 
 -- if clap refuses the words, nothing is parsed
 pub parsed_none : (words : List Text) (k : ErrorKind) → IsAmong k (fault_of command_app words) → parsed words ≡ None

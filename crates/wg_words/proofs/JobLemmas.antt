@@ -1,5 +1,5 @@
 -- A job is within its limits.
-use Rattle.std.proofs.Common.{◌≡◌, ℕ, ◌≤◌, Bool, true, false, List, Option, Some, None, Result, Ok, Err, IfOk, refl, sym, ◌∙◌, option_and_then, option_map, cond, arith, subst, codes}
+use Rattle.std.proofs.Common.{◌≡◌, ℕ, ◌≤◌, Bool, false, List, Option, Some, None, Result, Err, IfOk, sym, ◌∙◌, option_and_then, option_map, cond, arith, subst, codes}
 use Rattle.std.specs.Str.{bytes_eq}
 use Rattle.std.proofs.lemmas.Bool.{false_from_ne_true}
 use Rattle.std.proofs.lemmas.Slice.Eq.{bytes_eq-Decides}
@@ -7,7 +7,6 @@ use Rattle.std.proofs.lemmas.Option.{none-some, same_Some, option_and_then_some}
 use Rattle.clap.specs.Words.{Row, Text, first_of}
 use Rattle.wg_params.specs.declared.limits.TheConstants.{MOST_PAGES, MOST_DAMPING, MOST_ROUNDS, MOST_GENERATED}
 use Rattle.wg_words.specs.Asked.{IsAsked}
-use Rattle.wg_words.specs.Commands.{parsed}
 use Rattle.wg_words.specs.Files.{is_file_of, overwrites, IsNoFileOf, KeepsInputs, ShareNoFile}
 use Rattle.wg_words.specs.Values.{name_in, number_up_to, numbers_in, optional_name_in, unlimited_in}
 use Rattle.wg_words.specs.Jobs.{show_on, spot_on, rank_from, rank_with, rank_on, verify_on, build_from, build_on, import_from, import_on, conversion_from, conversion_of, conversion_in, quotient_by, quotient_on, quotient_in, recoding, union_with, union_of, union_in, transposing, bulk_in, job_on, job_on_base, job_from, job_of, IsConversion, IsWithin}
@@ -41,16 +40,13 @@ spot_on_within rows base job = made (unlimited_in rows (codes "page"))
 
 rank_from_within : (rows : List Row) (base : Text) (weights certificate : Option Text) (job : Job) → KeepsInputs base weights certificate → rank_from rows base weights certificate ≡ Some job → IsWithin job
 rank_from_within rows base weights certificate job apart is =
-    let least : DEFAULT_ROUNDS ≤ MOST_ROUNDS = omega arith in
-    let weakest : DEFAULT_DAMPING ≤ MOST_DAMPING = omega arith in
-    let fewest : DEFAULT_TOP ≤ MOST_PAGES = omega arith in
     option_and_then_some _ _ job is (λ rounds is_rounds then_rounds.
     option_and_then_some _ _ job then_rounds (λ damping is_damping then_damping.
     option_and_then_some _ _ job then_damping (λ top is_top job_is.
     subst IsWithin (same_Some (Rank base rounds damping top weights certificate) job job_is) (
-      number_within DEFAULT_ROUNDS MOST_ROUNDS (first_of (codes "rounds") rows) rounds least is_rounds,
-      number_within DEFAULT_DAMPING MOST_DAMPING (first_of (codes "damping") rows) damping weakest is_damping,
-      number_within DEFAULT_TOP MOST_PAGES (first_of (codes "top") rows) top fewest is_top,
+      number_within DEFAULT_ROUNDS MOST_ROUNDS (first_of (codes "rounds") rows) rounds (omega arith) is_rounds,
+      number_within DEFAULT_DAMPING MOST_DAMPING (first_of (codes "damping") rows) damping (omega arith) is_damping,
+      number_within DEFAULT_TOP MOST_PAGES (first_of (codes "top") rows) top (omega arith) is_top,
       apart,
     ))))
 
@@ -131,8 +127,7 @@ quotient_in_within rows job is =
 
 -- the job of a conversion is within its limits, as the conversion is
 mapped_within : (make : Conversion → Job) → ((c : Conversion) → IsProper c → IsWithin (make c)) → (o : Option Conversion) → ((c : Conversion) → o ≡ Some c → IsProper c) → (job : Job) → option_map make o ≡ Some job → IsWithin job
-mapped_within make makes None within job is = absurd (none-some job is)
-mapped_within make makes (Some c) within job is = subst IsWithin (same_Some (make c) job is) (makes c (within c refl))
+mapped_within make h o h2 job h3 = grind arith
 
 union_with_within : (c : Conversion) (second : Text) (job : Job) → IsProper c → union_with c second ≡ Some job → IsWithin job
 union_with_within c second job within =
@@ -147,8 +142,7 @@ union_in_within rows job is =
 
 -- one of two answers
 chosen_within : (b : Bool) (first other : Option Job) (job : Job) → (first ≡ Some job → IsWithin job) → (other ≡ Some job → IsWithin job) → cond b first other ≡ Some job → IsWithin job
-chosen_within true first other job by_first by_other is = by_first is
-chosen_within false first other job by_first by_other is = by_other is
+chosen_within b first other job h h2 h3 = grind arith
 
 bulk_in_within : (rows : List Row) (job : Job) → bulk_in rows ≡ Some job → IsWithin job
 bulk_in_within rows job is =
@@ -171,8 +165,7 @@ job_on_within command rows base job =
     (chosen_within (bytes_eq command (codes "import")) _ _ job (import_on_within rows base job) (λ is. absurd (none-some job is)))))))))))
 
 job_on_base_within : (command : Text) (rows : List Row) (job : Job) → job_on_base command rows ≡ Some job → IsWithin job
-job_on_base_within command rows job is =
-    option_and_then_some (job_on command rows) (name_in rows (codes "base")) job is (λ base _ on. job_on_within command rows base job on)
+job_on_base_within command rows job is = grind (arith, option_and_then_some, job_on_within)
 
 job_from_within : (command : Text) (rows : List Row) (job : Job) → job_from (command, rows) ≡ Some job → IsWithin job
 job_from_within command rows job =
@@ -184,17 +177,14 @@ job_from_within command rows job =
     (job_on_base_within command rows job)))))
 
 pub job_within : (words : List Text) (job : Job) → job_of words ≡ Some job → IsWithin job
-job_within words job is =
-    option_and_then_some job_from (parsed words) job is (λ found _ from. job_from_within found.0 found.1 job from)
+job_within words job is = grind (arith, option_and_then_some, job_from_within)
 
 -- a job that is answered is that of the words, and within its limits
 pub asked_job : (words : List Text) (wanted : Option Job) (answer : Result Job JobError) → wanted ≡ job_of words → IsAsked wanted answer → IfOk answer (λ job. job_of words ≡ Some job)
-asked_job words wanted (Ok job) is asked = sym is ∙ asked
-asked_job words wanted (Err e) is asked = tt
+asked_job words wanted answer h h2 = grind arith
 
 pub asked_within : (words : List Text) (wanted : Option Job) (answer : Result Job JobError) → wanted ≡ job_of words → IsAsked wanted answer → IfOk answer (λ job. IsWithin job)
-asked_within words wanted (Ok job) is asked = job_within words job (sym is ∙ asked)
-asked_within words wanted (Err e) is asked = tt
+asked_within words wanted answer h h2 = grind (arith, job_within)
 
 -- if the answer is that there is none, there is none
 pub asked_none : (words : List Text) (wanted : Option Job) (answer : Result Job JobError) → wanted ≡ job_of words → IsAsked wanted answer → answer ≡ Err Usage → job_of words ≡ None

@@ -1,65 +1,37 @@
 -- A layout that the options give is within the limits.
-use Rattle.std.proofs.Common.{◌≡◌, ℕ, ◌≤◌, ◌==◌, true, List, Option, Some, None, unwrap_or, option_map, arith, refl, subst, codes}
-use Rattle.std.specs.Str.{bytes_eq}
-use Rattle.std.proofs.lemmas.Option.{none-some, same_Some, option_and_then_some}
+use Rattle.std.proofs.Common.{◌≡◌, ℕ, ◌≤◌, true, List, Option, Some, unwrap_or, arith, refl, subst, codes}
+use Rattle.std.proofs.lemmas.Option.{same_Some, option_and_then_some}
 use Rattle.clap.specs.Words.{Row, Text, first_of}
 use Rattle.wg_params.specs.Codes.{is_gamma_or_delta, is_unary_gamma_or_delta, is_residual_code}
 use Rattle.wg_params.specs.Parameters.{AreCodes, IsWithinLimits, params_of}
 use Rattle.wg_params.specs.declared.code.Code.{Code}
-use Rattle.wg_params.specs.declared.code.Code.TheVariants.{Unary, Gamma, Delta, Zeta, Nibble}
+use Rattle.wg_params.specs.declared.code.Code.TheVariants.{Gamma, Delta}
 use Rattle.wg_params.specs.declared.limits.TheConstants.{MOST_PAGES, MOST_ARCS, MOST_WINDOW, MOST_CHAIN, MOST_INTERVAL, MOST_ZETA}
-use Rattle.wg_words.specs.Values.{number_up_to, word_in}
-use Rattle.wg_words.specs.Layouts.{chain_or, factor_of, zeta_in, gamma_or_delta, unary_gamma_or_delta, residual_code, codes_in, layout_in}
-use Rattle.wg_words.specs.declared.defaults.TheConstants.{DEFAULT_WINDOW, DEFAULT_CHAIN, DEFAULT_INTERVAL, DEFAULT_ZETA, DEFAULT_OUTDEGREES, DEFAULT_REFERENCES, DEFAULT_BLOCK_COUNTS, DEFAULT_BLOCKS, DEFAULT_RESIDUALS, DEFAULT_OFFSETS}
+use Rattle.wg_words.specs.Values.{word_in}
+use Rattle.wg_words.specs.Layouts.{chain_or, zeta_in, gamma_or_delta, unary_gamma_or_delta, residual_code, codes_in, layout_in}
+use Rattle.wg_words.specs.declared.defaults.TheConstants.{DEFAULT_WINDOW, DEFAULT_INTERVAL, DEFAULT_OUTDEGREES, DEFAULT_REFERENCES, DEFAULT_BLOCK_COUNTS, DEFAULT_BLOCKS, DEFAULT_RESIDUALS, DEFAULT_OFFSETS}
 use Rattle.wg_params.specs.declared.layout.Codes.{Codes}
 use Rattle.wg_params.specs.declared.layout.Layout.{Layout}
-use Rattle.wg_words.proofs.ValueLemmas.{up_to_within, number_within, first_or_other}
+use Rattle.wg_words.proofs.ValueLemmas.{number_within, first_or_other}
 
 -- gamma or delta, under whatever holds of both
 named_code : (P : Code → Type 0) (word : Text) (code : Code) → P Gamma → P Delta → gamma_or_delta word ≡ Some code → P code
-named_code P word code gamma delta =
-    first_or_other P (bytes_eq word (codes "gamma")) Gamma _ code gamma
-    (first_or_other P (bytes_eq word (codes "delta")) Delta None code delta (λ is. absurd (none-some code is)))
+named_code P word code gamma delta = grind arith
 
 gamma_or_delta_within : (word : Text) (code : Code) → gamma_or_delta word ≡ Some code → is_gamma_or_delta code ≡ true
 gamma_or_delta_within word code = named_code (λ (x : Code). is_gamma_or_delta x ≡ true) word code refl refl
 
 unary_gamma_or_delta_within : (word : Text) (code : Code) → unary_gamma_or_delta word ≡ Some code → is_unary_gamma_or_delta code ≡ true
-unary_gamma_or_delta_within word code =
-    first_or_other (λ (x : Code). is_unary_gamma_or_delta x ≡ true) (bytes_eq word (codes "unary")) Unary _ code refl
-    (named_code (λ (x : Code). is_unary_gamma_or_delta x ≡ true) word code refl refl)
-
-same_factor : (n : ℕ) → (n == n) ≡ true
-same_factor n = grind arith
+unary_gamma_or_delta_within word code = grind arith
 
 residual_code_within : (factor : ℕ) (word : Text) (code : Code) → residual_code factor word ≡ Some code → is_residual_code factor code ≡ true
-residual_code_within factor word code =
-    first_or_other (λ (x : Code). is_residual_code factor x ≡ true) (bytes_eq word (codes "zeta")) (Zeta factor) _ code (same_factor factor)
-    (first_or_other (λ (x : Code). is_residual_code factor x ≡ true) (bytes_eq word (codes "nibble")) Nibble _ code refl
-    (named_code (λ (x : Code). is_residual_code factor x ≡ true) word code refl refl))
-
--- a limit that is there is at most the greatest
-limit_within : (o : Option ℕ) (chain : Option ℕ) → ((n : ℕ) → o ≡ Some n → n ≤ MOST_CHAIN) → option_map (λ n. Some n) o ≡ Some chain → unwrap_or chain 0 ≤ MOST_CHAIN
-limit_within None chain within is = absurd (none-some chain is)
-limit_within (Some n) chain within is = subst (λ (x : Option ℕ). unwrap_or x 0 ≤ MOST_CHAIN) (same_Some (Some n) chain is) (within n refl)
+residual_code_within factor word code = grind (arith, first_or_other, named_code)
 
 chain_within : (o : Option Text) (chain : Option ℕ) → chain_or o ≡ Some chain → unwrap_or chain 0 ≤ MOST_CHAIN
-chain_within None chain is =
-    let least : DEFAULT_CHAIN ≤ MOST_CHAIN = omega arith in
-    subst (λ (x : Option ℕ). unwrap_or x 0 ≤ MOST_CHAIN) (same_Some (Some DEFAULT_CHAIN) chain is) least
-chain_within (Some text) chain is =
-    let least : 0 ≤ MOST_CHAIN = omega arith in
-    first_or_other (λ (x : Option ℕ). unwrap_or x 0 ≤ MOST_CHAIN) (bytes_eq text (codes "none")) None _ chain least
-    (limit_within (number_up_to MOST_CHAIN text) chain (λ n found. up_to_within MOST_CHAIN text n found)) is
-
-factor_within : (n factor : ℕ) → n ≤ MOST_ZETA → factor_of n ≡ Some factor → (1 ≤ factor) × (factor ≤ MOST_ZETA)
-factor_within n factor low is = grind arith
+chain_within o chain h = grind arith
 
 zeta_within : (rows : List Row) (factor : ℕ) → zeta_in rows ≡ Some factor → (1 ≤ factor) × (factor ≤ MOST_ZETA)
-zeta_within rows factor is =
-    let least : DEFAULT_ZETA ≤ MOST_ZETA = omega arith in
-    option_and_then_some _ _ factor is (λ n is_number is_factor.
-    factor_within n factor (number_within DEFAULT_ZETA MOST_ZETA (first_of (codes "zeta") rows) n least is_number) is_factor)
+zeta_within rows factor is = grind (arith, option_and_then_some, number_within)
 
 codes_within : (rows : List Row) (factor : ℕ) (given : Codes) → codes_in rows factor ≡ Some given → AreCodes factor given
 codes_within rows factor given is =
@@ -108,18 +80,4 @@ layout_in_within rows layout pages few_pages is =
 
 -- a layout that is within its limits for one graph is so for any, as far as its pages and arcs are
 pub layout_for_any : (layout : Layout) (pages links other_pages other_links : ℕ) → IsWithinLimits (params_of layout other_pages other_links) → pages ≤ MOST_PAGES → links ≤ MOST_ARCS → IsWithinLimits (params_of layout pages links)
-layout_for_any layout pages links other_pages other_links within few_pages few = record {
-  nodes = few_pages;
-  arcs = few;
-  window = within.window;
-  chain = within.chain;
-  interval = within.interval;
-  some_zeta = within.some_zeta;
-  zeta = within.zeta;
-  outdegrees = within.outdegrees;
-  references = within.references;
-  block_counts = within.block_counts;
-  blocks = within.blocks;
-  residuals = within.residuals;
-  offsets = within.offsets;
-}
+layout_for_any layout pages links other_pages other_links within few_pages few = grind arith

@@ -32,9 +32,8 @@ returns-then-holds_bit-clause-found g c = λ t file is i.
     let here = steps.in_step t file is i in
     let before = v.zeros t file is i ∙ ap (λ m. replicate c.loop-held.zeros false ++ drop m (bits_of file)) (sym c.in_ok-fill.ensures.at) in
     let zeros = more_zeros file c.fill.new.held c.zeros-zeros.new.self c.args.held.now.at c.loop-held.zeros c.zeros-zeros.result c.in_ok-fill.ensures.inside c.zeros-zeros.ensures.inside c.zeros-zeros.ensures.moved here c.zeros-zeros.ensures.zeros before in
-    let few = c.if-zeros-gt-MOST_ZEROS.false in
-    one_follows file c.zeros-zeros.new.self c.args.held.now.at n MOST_ZEROS c.advance.new.self.at (omega (arith, few)) c.zeros-zeros.ensures.inside
-    (moved_held file _ _ _ c.zeros-zeros.ensures.moved here) (c.holds_bit.ensures.some c.if-holds_bit.true) (c.zeros-zeros.ensures.stops (omega (arith, few))) zeros
+    one_follows file c.zeros-zeros.new.self c.args.held.now.at n MOST_ZEROS c.advance.new.self.at (omega arith) c.zeros-zeros.ensures.inside
+    (moved_held file _ _ _ c.zeros-zeros.ensures.moved here) (c.holds_bit.ensures.some c.if-holds_bit.true) (c.zeros-zeros.ensures.stops (omega arith)) zeros
     (omega (arith, v.place, c.in_ok-fill.ensures.at, ap (λ (h : HeldBytes). h.at) c.zeros-zeros.ensures.moved)) (ap (λ (h : HeldBytes). h.at) c.advance.ensures)
 
 pub returns-then-ended-clause-found : goal.returns-then-ended-clause-found
