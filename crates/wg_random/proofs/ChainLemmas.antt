@@ -9,56 +9,55 @@ use Rattle.wg_stream.specs.AllRecords.{known_at}
 use Rattle.wg_random.specs.Chain.{ArePages, Fall, Leads, Link, Going, Ended}
 use Rattle.wg_stream.specs.References.{StandsOn, Refers}
 
-pub ended_of : (p : Parameters) (bits : List Bool) (ws : List Whole) (chain : List ℕ) (x page depth : ℕ) → Leads p bits ws page None → Going p bits ws chain x page depth → Ended p bits ws chain x depth
-ended_of p bits ws chain x page depth none g = record {
-  first = g.first;
-  links = g.links;
-  bottom = λ lt. subst (λ (k : ℕ). StandsOn p bits ws k None) (sym (g.here lt)) none.0;
-  deep = omega (arith, g.deep, none.1);
-}
+module _ (p : Parameters) (bits : List Bool) (ws : List Whole) where
+  pub ended_of : (chain : List ℕ) (x page depth : ℕ) → Leads p bits ws page None → Going p bits ws chain x page depth → Ended p bits ws chain x depth
+  ended_of chain x page depth none g = record {
+    first = g.first;
+    links = g.links;
+    bottom = λ lt. subst (λ (k : ℕ). StandsOn p bits ws k None) (sym (g.here lt)) none.0;
+    deep = omega (arith, g.deep, none.1);
+  }
 
-pub no_link : (p : Parameters) (bits : List Bool) (ws : List Whole) (page back : ℕ) → back ≡ 0 → Refers p bits ws page back → Leads p bits ws page None
-no_link p bits ws page back none h =
-    let at_end : Refers p bits ws page 0 = subst (λ (k : ℕ). Refers p bits ws page k) none h in
-    (at_end.proper, at_end.depth)
+  pub no_link : (page back : ℕ) → back ≡ 0 → Refers p bits ws page back → Leads p bits ws page None
+  no_link page back none h =
+      let at_end : Refers p bits ws page 0 = subst (λ (k : ℕ). Refers p bits ws page k) none h in
+      (at_end.proper, at_end.depth)
 
-pub link_of : (p : Parameters) (bits : List Bool) (ws : List Whole) (page back : ℕ) → 0 < back → Refers p bits ws page back → Link p bits ws page (page - back)
-link_of p bits ws page zero some h = absurd (omega (arith, some))
-link_of p bits ws page (suc b) some h = record { proper = h.proper; depth = h.depth }
+  pub link_of : (page back : ℕ) → 0 < back → Refers p bits ws page back → Link p bits ws page (page - back)
+  link_of page zero some h = absurd (omega (arith, some))
+  link_of page (suc b) some h = record { proper = h.proper; depth = h.depth }
 
--- one reference more; the chain keeps the page if it has room
-going_on : (p : Parameters) (bits : List Bool) (ws : List Whole) (chain new : List ℕ) (x page depth below : ℕ) → Link p bits ws page below
-    → ((i : ℕ) → i ≤ depth → i < length new → i < length chain)
-    → ((i : ℕ) → i ≤ depth → i < length new → get_or new i 0 ≡ get_or chain i 0)
-    → (depth + 1 < length new → get_or new (depth + 1) 0 ≡ below)
-    → Going p bits ws chain x page depth → 0 < length new → Going p bits ws new x below (depth + 1)
-going_on p bits ws chain new x page depth below link keeps same put g there = record {
-  first = same 0 (omega arith) there ∙ g.first;
-  links = λ i lt near. elim (cases_lt i depth) [
-    | inl less ↦
-        let l : Link p bits ws (get_or chain i 0) (get_or chain (suc i) 0) = g.links i less (keeps (suc i) (omega (arith, less)) near) in
-        let one = subst (λ (k : ℕ). Link p bits ws (get_or chain i 0) k) (sym (same (suc i) (omega (arith, less)) near)) l in
-        subst (λ (k : ℕ). Link p bits ws k (get_or new (suc i) 0)) (sym (same i (omega (arith, less)) (omega (arith, near)))) one
-    | inr ge ↦
-        let e : i ≡ depth = omega (arith, lt, ge) in
-        let kept : depth < length chain = keeps depth (omega arith) (omega (arith, near, e)) in
-        let here : get_or new i 0 ≡ page = same i (omega (arith, e)) (omega (arith, near)) ∙ ap (λ (k : ℕ). get_or chain k 0) e ∙ g.here kept in
-        let place : suc i ≡ depth + 1 = omega (arith, e) in
-        let next : get_or new (suc i) 0 ≡ below = ap (λ (k : ℕ). get_or new k 0) place ∙ put (omega (arith, near, e)) in
-        subst (λ (k : ℕ). Link p bits ws k (get_or new (suc i) 0)) (sym here) (subst (λ (k : ℕ). Link p bits ws page k) (sym next) link)
-  ];
-  here = put;
-  deep = omega (arith, g.deep, link.depth);
-}
+  -- one reference more; the chain keeps the page if it has room
+  going_on : (chain new : List ℕ) (x page depth below : ℕ) → Link p bits ws page below → ((i : ℕ) → i ≤ depth → i < length new → i < length chain)
+      → ((i : ℕ) → i ≤ depth → i < length new → get_or new i 0 ≡ get_or chain i 0) → (depth + 1 < length new → get_or new (depth + 1) 0 ≡ below)
+      → Going p bits ws chain x page depth → 0 < length new → Going p bits ws new x below (depth + 1)
+  going_on chain new x page depth below link keeps same put g there = record {
+    first = same 0 (omega arith) there ∙ g.first;
+    links = λ i lt near. elim (cases_lt i depth) [
+      | inl less ↦
+          let l : Link p bits ws (get_or chain i 0) (get_or chain (suc i) 0) = g.links i less (keeps (suc i) (omega (arith, less)) near) in
+          let one = subst (λ (k : ℕ). Link p bits ws (get_or chain i 0) k) (sym (same (suc i) (omega (arith, less)) near)) l in
+          subst (λ (k : ℕ). Link p bits ws k (get_or new (suc i) 0)) (sym (same i (omega (arith, less)) (omega (arith, near)))) one
+      | inr ge ↦
+          let e : i ≡ depth = omega (arith, lt, ge) in
+          let kept : depth < length chain = keeps depth (omega arith) (omega (arith, near, e)) in
+          let here : get_or new i 0 ≡ page = same i (omega (arith, e)) (omega (arith, near)) ∙ ap (λ (k : ℕ). get_or chain k 0) e ∙ g.here kept in
+          let place : suc i ≡ depth + 1 = omega (arith, e) in
+          let next : get_or new (suc i) 0 ≡ below = ap (λ (k : ℕ). get_or new k 0) place ∙ put (omega (arith, near, e)) in
+          subst (λ (k : ℕ). Link p bits ws k (get_or new (suc i) 0)) (sym here) (subst (λ (k : ℕ). Link p bits ws page k) (sym next) link)
+    ];
+    here = put;
+    deep = omega (arith, g.deep, link.depth);
+  }
 
--- the next page up
-pub next_up : (p : Parameters) (bits : List Bool) (ws : List Whole) (chain list : List ℕ) (x depth left : ℕ) → 0 < left → left ≤ depth → depth < length chain
-    → list ≡ (known_at ws (get_or chain left 0)).list → Ended p bits ws chain x depth → StandsOn p bits ws (get_or chain (left - 1) 0) (Some list)
-next_up p bits ws chain list x depth left some le near is h =
-    let place : suc (left - 1) ≡ left = omega (arith, some) in
-    let l : Link p bits ws (get_or chain (left - 1) 0) (get_or chain (suc (left - 1)) 0) = h.links (left - 1) (omega (arith, some, le)) (omega (arith, le, near, place)) in
-    let same : (known_at ws (get_or chain (suc (left - 1)) 0)).list ≡ list = ap (λ (k : ℕ). (known_at ws (get_or chain k 0)).list) place ∙ sym is in
-    subst (λ (xs : List ℕ). StandsOn p bits ws (get_or chain (left - 1) 0) (Some xs)) same l.proper
+  -- the next page up
+  pub next_up : (chain list : List ℕ) (x depth left : ℕ) → 0 < left → left ≤ depth → depth < length chain → list ≡ (known_at ws (get_or chain left 0)).list
+      → Ended p bits ws chain x depth → StandsOn p bits ws (get_or chain (left - 1) 0) (Some list)
+  next_up chain list x depth left some le near is h =
+      let place : suc (left - 1) ≡ left = omega (arith, some) in
+      let l : Link p bits ws (get_or chain (left - 1) 0) (get_or chain (suc (left - 1)) 0) = h.links (left - 1) (omega (arith, some, le)) (omega (arith, le, near, place)) in
+      let same : (known_at ws (get_or chain (suc (left - 1)) 0)).list ≡ list = ap (λ (k : ℕ). (known_at ws (get_or chain k 0)).list) place ∙ sym is in
+      subst (λ (xs : List ℕ). StandsOn p bits ws (get_or chain (left - 1) 0) (Some xs)) same l.proper
 
 -- ---- a chain of a fixed length
 
@@ -86,8 +85,8 @@ set_going p bits ws chain x page depth below link lt g =
     g (omega (arith, lt, len))
 
 -- if it has no room, it stays
-pub full_going : (p : Parameters) (bits : List Bool) (ws : List Whole) (chain : List ℕ) (x page depth below : ℕ) → Link p bits ws page below → length chain ≤ depth + 1 → 0 < length chain
-    → Going p bits ws chain x page depth → Going p bits ws chain x below (depth + 1)
+pub full_going : (p : Parameters) (bits : List Bool) (ws : List Whole) (chain : List ℕ) (x page depth below : ℕ) → Link p bits ws page below → length chain ≤ depth + 1
+    → 0 < length chain → Going p bits ws chain x page depth → Going p bits ws chain x below (depth + 1)
 full_going p bits ws chain x page depth below link full there g =
     going_on p bits ws chain chain x page depth below link (λ i le near. near) (λ i le near. refl) (λ near. absurd (omega (arith, near, full))) g there
 
@@ -138,8 +137,8 @@ pushed_fall chain new page v is some here low falls i near =
           omega (arith, same, next, push_here chain (suc i) v e, ap (λ (k : ℕ). get_or chain k 0) last, here, low)
     ]
 
-pub pushed_going : (p : Parameters) (bits : List Bool) (ws : List Whole) (chain new : List ℕ) (x page below : ℕ) → new ≡ chain ++ below ∷ [] → 0 < length chain → Link p bits ws page below
-    → Going p bits ws chain x page (length chain - 1) → Going p bits ws new x below (length new - 1)
+pub pushed_going : (p : Parameters) (bits : List Bool) (ws : List Whole) (chain new : List ℕ) (x page below : ℕ) → new ≡ chain ++ below ∷ [] → 0 < length chain
+    → Link p bits ws page below → Going p bits ws chain x page (length chain - 1) → Going p bits ws new x below (length new - 1)
 pushed_going p bits ws chain new x page below is there link g =
     let len : length new ≡ length chain + 1 = pushed_length chain new below is in
     let depth : length chain - 1 + 1 ≡ length new - 1 = omega (arith, len, there) in
@@ -154,5 +153,6 @@ pushed_going p bits ws chain new x page below is there link g =
     g (omega (arith, len)))
 
 -- the same chain, lent
-pub ended_as : (p : Parameters) (bits : List Bool) (ws : List Whole) (chain lent : List ℕ) (x : ℕ) → lent ≡ chain → Ended p bits ws chain x (length chain - 1) → Ended p bits ws lent x (length lent - 1)
+pub ended_as : (p : Parameters) (bits : List Bool) (ws : List Whole) (chain lent : List ℕ) (x : ℕ) → lent ≡ chain → Ended p bits ws chain x (length chain - 1)
+    → Ended p bits ws lent x (length lent - 1)
 ended_as p bits ws chain lent x is h = subst (λ (l : List ℕ). Ended p bits ws l x (length l - 1)) (sym is) h

@@ -15,7 +15,8 @@ use Rattle.wg_stream.proofs.AllRecords.{all_records}
 ok_is : (v w : Whole) → (let x : Result Whole Fault = Ok v in x) ≡ Ok w → v ≡ w
 ok_is v w e = cc
 
-one_pages : (p : Parameters) → IsWithinLimits p → (bits : List Bool) (ws vs first l m : List Whole) (at e f : ℕ) → length ws ≡ length vs → Pages p bits first at ws l e → Pages p bits first at vs m f → ws ≡ vs
+one_pages : (p : Parameters) → IsWithinLimits p → (bits : List Bool) (ws vs first l m : List Whole) (at e f : ℕ) → length ws ≡ length vs → Pages p bits first at ws l e
+    → Pages p bits first at vs m f → ws ≡ vs
 one_pages p limits bits [] [] first l m at e f same h k = refl
 one_pages p limits bits [] (v ∷ vs) first l m at e f same h k = absurd (omega (arith, same))
 one_pages p limits bits (w ∷ ws) [] first l m at e f same h k = absurd (omega (arith, same))
@@ -30,7 +31,8 @@ one_reading p bits limits r s = one_pages p limits bits r.records s.records [] r
 
 -- ---- how deep a page is
 
-depth_within : (p : Parameters) (bits : List Bool) (first : List Whole) (at : ℕ) (ws last : List Whole) (end x limit : ℕ) → p.chain ≡ Some limit → Pages p bits first at ws last end → (known_at ws x).depth ≤ limit
+depth_within : (p : Parameters) (bits : List Bool) (first : List Whole) (at : ℕ) (ws last : List Whole) (end x limit : ℕ) → p.chain ≡ Some limit
+    → Pages p bits first at ws last end → (known_at ws x).depth ≤ limit
 depth_within p bits first at [] last end x limit has h = let none : (known_at [] x).depth ≡ 0 = refl in omega (arith, none)
 depth_within p bits first at (w ∷ ws) last end zero limit has h = record_limited p (context_of p first) bits at limit w has h.1
 depth_within p bits first at (w ∷ ws) last end (suc x) limit has h = depth_within p bits (w ∷ first) w.end ws last end x limit has h.2
@@ -40,7 +42,8 @@ pub depth_limited : (p : Parameters) (bits : List Bool) (r : AllRecords p bits) 
 depth_limited p bits r x limit has = depth_within p bits [] 0 r.records r.behind r.end x limit has r.pages
 
 -- so few records are read if as many are read as its chain has
-pub few_opened : (p : Parameters) (bits : List Bool) (x from to : ℕ) → AllRecords p bits → ((r : AllRecords p bits) → to ≤ from + (known_at r.records x).depth + 1) → (limit : ℕ) → p.chain ≡ Some limit → to ≤ from + limit + 1
+pub few_opened : (p : Parameters) (bits : List Bool) (x from to : ℕ) → AllRecords p bits → ((r : AllRecords p bits) → to ≤ from + (known_at r.records x).depth + 1)
+    → (limit : ℕ) → p.chain ≡ Some limit → to ≤ from + limit + 1
 few_opened p bits x from to r most limit has = omega (arith, most r, depth_limited p bits r x limit has)
 
 -- ---- the places

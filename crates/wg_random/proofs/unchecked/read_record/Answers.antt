@@ -52,5 +52,6 @@ returns-in-Err-clause-fault g c = λ bits o r l.
     let on = g.met.S.Seek.bits_stay _ _ bits c.in_ok-extent.ensures.reached r in
     let lies = c.in_ok-extent.ensures.lies o l in
     let bad = rw (lies.0, lies.1) at c.in-Err.ensures.other in
-    length_fault c.args.params.now bits o c.args.page k (g.S.Source.offset c.go_to_record.new.source) (g.S.Source.offset c.decode_over.new.source) c.at.result (known_of c.in_ok-decoded.decoded) c.in-Err.fault
+    length_fault c.args.params.now bits o c.args.page k (g.S.Source.offset c.go_to_record.new.source) (g.S.Source.offset c.decode_over.new.source) c.at.result
+      (known_of c.in_ok-decoded.decoded) c.in-Err.fault
     (c.in_ok-extent.ensures.at ∙ lies.0) (c.in_ok-decoded.ensures.reads bits on) c.at.ensures.value bad.0 bad.1

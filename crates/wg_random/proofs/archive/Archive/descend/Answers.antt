@@ -28,5 +28,6 @@ down-preserved g c =
       long = h.long;
       pages = λ i le near. h.pages i (omega (arith, near)) near;
       ticks = omega (arith, h.ticks, c.follow.ensures.ticks);
-      going = λ r. full_going c.args.self.now.params c.args.self.now.bits r.records c.down.chain c.args.x c.down.page c.down.depth c.in-Some.below (c.in-Some.ensures.leads r) (omega (arith, h.long)) (omega (arith, h.long)) (h.going r);
+      going = λ r. full_going c.args.self.now.params c.args.self.now.bits r.records c.down.chain c.args.x c.down.page c.down.depth c.in-Some.below
+        (c.in-Some.ensures.leads r) (omega (arith, h.long)) (omega (arith, h.long)) (h.going r);
     }
