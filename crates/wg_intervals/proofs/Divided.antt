@@ -51,8 +51,10 @@ together t (r ∷ rs) n xs cut y =
     let whole : is_in y xs ≡ (is_in y (numbers_of r) || is_in y zs) = ap (is_in y) cut.3 ∙ in_append y (numbers_of r) zs in
     let joined : (is_in y (numbers_of r) || (is_in y (of_runs t rs) || is_in y (of_runs (others t) rs))) ≡ is_in y xs = ap (λ b. is_in y (numbers_of r) || b) rest ∙ sym whole in
     elim (cases_Bool (t r)) [
-      | inl h ↦ rw h (ap (λ b. b || is_in y (of_runs (others t) rs)) (in_append y (numbers_of r) (of_runs t rs)) ∙ or_front (is_in y (numbers_of r)) (is_in y (of_runs t rs)) (is_in y (of_runs (others t) rs)) ∙ joined)
-      | inr h ↦ rw h (ap (λ b. is_in y (of_runs t rs) || b) (in_append y (numbers_of r) (of_runs (others t) rs)) ∙ or_middle (is_in y (numbers_of r)) (is_in y (of_runs t rs)) (is_in y (of_runs (others t) rs)) ∙ joined)
+      | inl h ↦ rw h (ap (λ b. b || is_in y (of_runs (others t) rs)) (in_append y (numbers_of r) (of_runs t rs))
+        ∙ or_front (is_in y (numbers_of r)) (is_in y (of_runs t rs)) (is_in y (of_runs (others t) rs)) ∙ joined)
+      | inr h ↦ rw h (ap (λ b. is_in y (of_runs t rs) || b) (in_append y (numbers_of r) (of_runs (others t) rs))
+        ∙ or_middle (is_in y (numbers_of r)) (is_in y (of_runs t rs)) (is_in y (of_runs (others t) rs)) ∙ joined)
     ]
 
 pub once : (t : Run → Bool) (rs : List Run) (n : ℕ) (xs : List ℕ) → Cut n rs xs → length (of_runs t rs) + length (of_runs (others t) rs) ≡ length xs
@@ -66,17 +68,18 @@ once t (r ∷ rs) n xs cut =
       | inr h ↦ rw h (omega (arith, rest, whole, length-append (numbers_of r) (of_runs (others t) rs)))
     ]
 
-pub are_together : (least : ℕ) (xs : List ℕ) → Ascends 0 xs → (y : ℕ) → is_in_either (inside least xs) (residuals_of least xs) y ≡ is_in y xs
-are_together least xs up y = together (is_long least) (runs_of xs) 0 xs (cut_of 0 xs up) y
+module _ (least : ℕ) (xs : List ℕ) where
+  pub are_together : Ascends 0 xs → (y : ℕ) → is_in_either (inside least xs) (residuals_of least xs) y ≡ is_in y xs
+  are_together up y = together (is_long least) (runs_of xs) 0 xs (cut_of 0 xs up) y
 
-pub are_once : (least : ℕ) (xs : List ℕ) → Ascends 0 xs → length (inside least xs) + length (residuals_of least xs) ≡ length xs
-are_once least xs up = once (is_long least) (runs_of xs) 0 xs (cut_of 0 xs up)
+  pub are_once : Ascends 0 xs → length (inside least xs) + length (residuals_of least xs) ≡ length xs
+  are_once up = once (is_long least) (runs_of xs) 0 xs (cut_of 0 xs up)
 
-pub parts_ascend : (least : ℕ) (xs : List ℕ) → Ascends 0 xs → Ascends 0 (inside least xs) × Ascends 0 (residuals_of least xs)
-parts_ascend least xs up = (of_runs_ascend (is_long least) (runs_of xs) 0 xs (cut_of 0 xs up), of_runs_ascend (others (is_long least)) (runs_of xs) 0 xs (cut_of 0 xs up))
+  pub parts_ascend : Ascends 0 xs → Ascends 0 (inside least xs) × Ascends 0 (residuals_of least xs)
+  parts_ascend up = (of_runs_ascend (is_long least) (runs_of xs) 0 xs (cut_of 0 xs up), of_runs_ascend (others (is_long least)) (runs_of xs) 0 xs (cut_of 0 xs up))
 
-pub are_long : (least : ℕ) (xs : List ℕ) → All (λ run. least ≤ run.length) (intervals_of least xs)
-are_long least xs k d lt = leb-true _ _ (and_parts _ _ (filter_passes (is_long least) (runs_of xs) k d lt)).1
+  pub are_long : All (λ run. least ≤ run.length) (intervals_of least xs)
+  are_long k d lt = leb-true _ _ (and_parts _ _ (filter_passes (is_long least) (runs_of xs) k d lt)).1
 
 -- ---- residuals are in no long run
 
@@ -101,7 +104,8 @@ not_both : (b : Bool) → b ≡ false → b ≡ true → ⊥
 not_both b isnt is = true≢false (sym is ∙ isnt)
 
 -- a window that holds a number of the first run lies in that run
-window_inside : (r : Run) (rs : List Run) (n : ℕ) (xs : List ℕ) → Cut n (r ∷ rs) xs → (least a y : ℕ) → Window a least xs → r.left ≤ y → y < r.left + r.length → a ≤ y → y < a + least → least ≤ r.length
+window_inside : (r : Run) (rs : List Run) (n : ℕ) (xs : List ℕ) → Cut n (r ∷ rs) xs → (least a y : ℕ) → Window a least xs → r.left ≤ y → y < r.left + r.length → a ≤ y
+    → y < a + least → least ≤ r.length
 window_inside r rs n xs cut least a y window low high from to =
     elim (cases_lt a r.left) [
       | inl before ↦ absurd (not_both (is_in (r.left - 1) xs) (before_first r rs n xs cut (r.left - 1) (omega arith)) (window (r.left - 1) (omega arith) (omega arith)))
@@ -111,7 +115,8 @@ window_inside r rs n xs cut least a y window low high from to =
       ]
     ]
 
-pub no_window : (least : ℕ) (rs : List Run) (n : ℕ) (xs : List ℕ) → Cut n rs xs → (y a : ℕ) → 0 < least → is_in y (of_runs (others (is_long least)) rs) ≡ true → a ≤ y → y < a + least → Window a least xs → ⊥
+pub no_window : (least : ℕ) (rs : List Run) (n : ℕ) (xs : List ℕ) → Cut n rs xs → (y a : ℕ) → 0 < least → is_in y (of_runs (others (is_long least)) rs) ≡ true → a ≤ y
+    → y < a + least → Window a least xs → ⊥
 no_window least [] n xs cut y a some residual from to window = not_both false refl residual
 no_window least (r ∷ rs) n xs cut y a some residual from to window =
     let t : Run → Bool = others (is_long least) in
@@ -140,5 +145,6 @@ no_window least (r ∷ rs) n xs cut y a some residual from to window =
       ]
     ]
 
-pub residuals_short : (least : ℕ) (xs : List ℕ) (y from : ℕ) → Ascends 0 xs → 0 < least → is_in y (residuals_of least xs) ≡ true → from ≤ y → y < from + least → ((z : ℕ) → from ≤ z → z < from + least → is_in z xs ≡ true) → ⊥
+pub residuals_short : (least : ℕ) (xs : List ℕ) (y from : ℕ) → Ascends 0 xs → 0 < least → is_in y (residuals_of least xs) ≡ true → from ≤ y → y < from + least
+    → ((z : ℕ) → from ≤ z → z < from + least → is_in z xs ≡ true) → ⊥
 residuals_short least xs y from up some residual low high window = no_window least (runs_of xs) 0 xs (cut_of 0 xs up) y from some residual low high window

@@ -20,8 +20,8 @@ first_of page least past count bits some ([], ns, len, stand) = absurd (omega (a
 first_of page least past count bits some (l ∷ ls, [], len, stand) = absurd stand
 first_of page least past count bits some (l ∷ ls, n ∷ ns, len, stand) = (l, n, stand.0, stand.1)
 
-same_stand : (page least l n l1 n1 : ℕ) (bits bits1 : List Bool) (ls ns : List ℕ) → l ≡ l1 → n ≡ n1 → bits ≡ bits1
-    → StandAt page least (Some (l + n)) ls ns bits → StandAt page least (Some (l1 + n1)) ls ns bits1
+same_stand : (page least l n l1 n1 : ℕ) (bits bits1 : List Bool) (ls ns : List ℕ) → l ≡ l1 → n ≡ n1 → bits ≡ bits1 → StandAt page least (Some (l + n)) ls ns bits
+    → StandAt page least (Some (l1 + n1)) ls ns bits1
 same_stand page least l n l1 n1 bits bits1 ls ns el en eb stand = grind arith
 
 -- behind an interval that was read the others stand

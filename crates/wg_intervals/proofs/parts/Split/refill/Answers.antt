@@ -20,14 +20,19 @@ pub loop-number-preserved : goal.loop-number-preserved
 loop-number-preserved c = record {
   short = omega (arith, c.step.ensures.longer, c.loop-number.invariant.short);
   low = omega (arith, c.step.ensures.end, c.type_inv.extras c.loop-number.number-index);
-  splitting = more c.args.interval c.args.extras.now c.loop-number.number-index c.loop-number.run c.step.new.self c.step.result _ _ _ _ c.loop-number-test.true c.loop-number.invariant.splitting c.step.ensures.runs c.step.ensures.end c.in_ok-add.ensures.intervals c.in_ok-add.ensures.residuals;
+  splitting = more c.args.interval c.args.extras.now c.loop-number.number-index c.loop-number.run c.step.new.self c.step.result _ _ _ _ c.loop-number-test.true
+    c.loop-number.invariant.splitting c.step.ensures.runs c.step.ensures.end c.in_ok-add.ensures.intervals c.in_ok-add.ensures.residuals;
 }
 
 pub add-requires-2 : goal.add-requires-2
 add-requires-2 c = ends_low _ c.loop-number.run c.last.ensures.same c.loop-number.invariant.low
 
 pub returns-clause-intervals : goal.returns-clause-intervals
-returns-clause-intervals c = on_ok_weaker _ (intervals_done c.args.interval c.args.extras.now c.loop-number.number-index c.loop-number.run c.last.result _ _ _ (omega arith) c.loop-number.invariant.splitting c.last.ensures.runs) c.add-2.ensures.intervals
+returns-clause-intervals c =
+    on_ok_weaker _ (intervals_done c.args.interval c.args.extras.now c.loop-number.number-index c.loop-number.run c.last.result _ _ _ (omega arith)
+    c.loop-number.invariant.splitting c.last.ensures.runs) c.add-2.ensures.intervals
 
 pub returns-clause-residuals : goal.returns-clause-residuals
-returns-clause-residuals c = on_ok_weaker _ (residuals_done c.args.interval c.args.extras.now c.loop-number.number-index c.loop-number.run c.last.result _ _ _ (omega arith) c.loop-number.invariant.splitting c.last.ensures.runs) c.add-2.ensures.residuals
+returns-clause-residuals c =
+    on_ok_weaker _ (residuals_done c.args.interval c.args.extras.now c.loop-number.number-index c.loop-number.run c.last.result _ _ _ (omega arith)
+    c.loop-number.invariant.splitting c.last.ensures.runs) c.add-2.ensures.residuals
