@@ -32,20 +32,23 @@ use Rattle.wg_greedy.proofs.Standing.{wholes, passed, records_stand, wholes_list
 filled_tail : (bits : List Bool) → IsTail (filled bits) (length bits)
 filled_tail bits =
     let zeros : List Bool = replicate (padding (length bits)) false in
-    all_zero (filled bits) [] (length bits) (padding (length bits)) (omega (arith, length-append bits zeros)) (drop-append_seam bits zeros ∙ sym (append-nil zeros)) (omega (arith, few_missing (length bits))) refl
+    all_zero (filled bits) [] (length bits) (padding (length bits)) (omega (arith, length-append bits zeros)) (drop-append_seam bits zeros ∙ sym (append-nil zeros))
+      (omega (arith, few_missing (length bits))) refl
 
 -- ---- offsets
 
 top_high : (c : Code) (v : ℕ) → is_gamma_or_delta c ≡ true → v ≤ MOST_PLACE → v ≤ top c
 top_high c v is le = two_codes (λ code. v ≤ top code) c is (omega arith) (omega arith)
 
-word_stands : (c : Code) (v at : ℕ) (bits before more : List Bool) → is_gamma_or_delta c ≡ true → v ≤ MOST_PLACE → bits ≡ before ++ (word c v ++ more) → at ≡ length before → Reads (word c) (top c) (drop at bits) (Value v)
+word_stands : (c : Code) (v at : ℕ) (bits before more : List Bool) → is_gamma_or_delta c ≡ true → v ≤ MOST_PLACE → bits ≡ before ++ (word c v ++ more)
+    → at ≡ length before → Reads (word c) (top c) (drop at bits) (Value v)
 word_stands c v at bits before more is low here start = grind (arith, drop-append_seam, true≢false)
 
 fine_value : (number offset v : ℕ) → 0 < number → offset + v ≤ MOST_PLACE → refusal number offset (Value v) ≡ None
 fine_value number offset v some le = rw (ne_eqb number 0 (λ e. absurd (omega arith)), le-ltb MOST_PLACE (offset + v) le) refl
 
-words_stand : (c : Code) (bits : List Bool) (read : List ℕ) (at : ℕ) (vs : List ℕ) (before more : List Bool) → is_gamma_or_delta c ≡ true → 0 < length read → sum read + sum vs ≤ MOST_PLACE → bits ≡ before ++ (flat_map (word c) vs ++ more) → at ≡ length before
+words_stand : (c : Code) (bits : List Bool) (read : List ℕ) (at : ℕ) (vs : List ℕ) (before more : List Bool) → is_gamma_or_delta c ≡ true → 0 < length read
+    → sum read + sum vs ≤ MOST_PLACE → bits ≡ before ++ (flat_map (word c) vs ++ more) → at ≡ length before
     → Words c bits read at vs (read ++ vs) (at + length (flat_map (word c) vs))
 words_stand c bits read at [] before more is some low here start = (append-nil read, omega arith)
 words_stand c bits read at (v ∷ vs) before more is some low here start =
@@ -54,12 +57,15 @@ words_stand c bits read at (v ∷ vs) before more is some low here start =
     let cut : bits ≡ before ++ (first ++ (others ++ more)) = here ∙ ap (λ z. before ++ z) (append_assoc first others more) in
     let later : bits ≡ (before ++ first) ++ (others ++ more) = cut ∙ sym (append_assoc before first (others ++ more)) in
     let total : sum (v ∷ vs) ≡ v + sum vs = sum_cons v vs in
-    let rest = words_stand c bits (read ++ v ∷ []) (at + length first) vs (before ++ first) more is (omega (arith, length-append read (v ∷ []))) (omega (arith, low, total, sum_push read v)) later (omega (arith, start, length-append before first)) in
+    let rest =
+      words_stand c bits (read ++ v ∷ []) (at + length first) vs (before ++ first) more is (omega (arith, length-append read (v ∷ [])))
+        (omega (arith, low, total, sum_push read v)) later (omega (arith, start, length-append before first)) in
     let all : (read ++ v ∷ []) ++ vs ≡ read ++ v ∷ vs = append_assoc read (v ∷ []) vs in
     let end : at + length first + length others ≡ at + length (first ++ others) = omega (arith, length-append first others) in (
       word_stands c v at bits before (others ++ more) is (omega (arith, low, total)) cut start,
       fine_value (length read) (sum read) v some (omega (arith, low, total)),
-      subst (Words c bits (read ++ v ∷ []) (at + length first) vs (read ++ v ∷ vs)) end (subst (λ (l : List ℕ). Words c bits (read ++ v ∷ []) (at + length first) vs l (at + length first + length others)) all rest),
+      subst (Words c bits (read ++ v ∷ []) (at + length first) vs (read ++ v ∷ vs)) end
+          (subst (λ (l : List ℕ). Words c bits (read ++ v ∷ []) (at + length first) vs l (at + length first + length others)) all rest),
     )
 
 -- the first word is that of 0
@@ -119,7 +125,8 @@ greedy_accepted proper p g within is nodes arcs =
     let total : numbers_in lists ≡ p.arcs = sym arcs in
     let low : sum (offset_values p lists) ≤ MOST_PLACE = omega (arith, values_sum p lists, graph_short p lists within are many total) in
     record {
-      graph = subst (λ z. ReadsGraph p z (Ok (record { graph = lists; places = offsets.places_of (offset_values p lists) }))) (sym (graph_again p lists)) (reads_graph proper p lists within are many total);
+      graph = subst (λ z. ReadsGraph p z (Ok (record { graph = lists; places = offsets.places_of (offset_values p lists) }))) (sym (graph_again p lists))
+        (reads_graph proper p lists within are many total);
       offsets = subst (λ z. ReadsOffsets p.offsets p.nodes z (Ok (offsets.places_of (offset_values p lists)))) (sym (offsets_again p lists)) (reads_offsets p lists within many low);
       short_graph = short_graph p lists within are many total;
       short_offsets = short_offsets p lists within many;

@@ -51,7 +51,9 @@ least_one size x (y ∷ ys) =
       | inr le ↦ (
         x,
         in_head x (y ∷ ys),
-        and_from (leb (size x) (size x)) (is_least size (y ∷ ys) x) (le-leb (size x) (size x) (omega arith)) (all_more (λ s. leb (size m.0) (size s)) (λ s. leb (size x) (size s)) (y ∷ ys) (λ s h. let low = leb-true (size m.0) (size s) h in le-leb (size x) (size s) (omega arith)) m.2),
+        and_from (leb (size x) (size x)) (is_least size (y ∷ ys) x) (le-leb (size x) (size x) (omega arith))
+          (all_more (λ s. leb (size m.0) (size s)) (λ s. leb (size x) (size s)) (y ∷ ys) (λ s h. let low = leb-true (size m.0) (size s) h in
+          le-leb (size x) (size s) (omega arith)) m.2),
       )
     ]
 
@@ -67,7 +69,8 @@ find_first : (t : ℕ → Bool) (n : ℕ) (xs : List ℕ) (x : ℕ) → Ascends 
 find_first t n [] x up there passes = absurd (true≢false (sym there))
 find_first t n (w ∷ ws) x up there passes =
     elim (cases_Bool (t w)) [
-      | inl h ↦ (w, record { found = cond-true (t w) (Some w) (find t ws) h; there = in_head w ws; passes = h; first = λ z member lt. absurd (true≢false (sym member ∙ in_below w z (w ∷ ws) (omega arith, up.1) lt)) })
+      | inl h ↦ (w, record { found = cond-true (t w) (Some w) (find t ws) h; there = in_head w ws; passes = h; first =
+        λ z member lt. absurd (true≢false (sym member ∙ in_below w z (w ∷ ws) (omega arith, up.1) lt)) })
       | inr h ↦
           let later : is_in x ws ≡ true = elim (or_cases (eqb x w) (is_in x ws) there) [ inl e ↦ absurd (true≢false (sym passes ∙ ap t (eqb-true x w e) ∙ h)) | inr k ↦ k ] in
           let rest = find_first t (suc w) ws x up.1 later passes in (
@@ -97,31 +100,35 @@ least_among : (size : ℕ → ℕ) (xs : List ℕ) (x : ℕ) → is_in x xs ≡ 
 least_among size [] x there = absurd (true≢false (sym there))
 least_among size (y ∷ ys) x there = least_one size y ys
 
-chosen_found : (p : Parameters) (c : Context) (list : List ℕ) → IsFound (is_least (size_of p c list) (candidates p c list)) (candidates p c list) (chosen p c list)
-unfolding chosen
-chosen_found p c list =
-    let size : ℕ → ℕ = size_of p c list in
-    let xs : List ℕ = candidates p c list in
-    let m = least_among size xs 0 (member p c list 0 refl) in
-    let f = find_first (is_least size xs) 0 xs m.0 (ascends-where (is_candidate p c list) 0 (min p.window c.page + 1)) m.1 m.2 in
-    subst (IsFound (is_least size xs) xs) (sym (ap (λ o. unwrap_or o 0) f.1.found)) f.1
+module _ (p : Parameters) (c : Context) (list : List ℕ) where
+  chosen_found : IsFound (is_least (size_of p c list) (candidates p c list)) (candidates p c list) (chosen p c list)
+  unfolding chosen
+  chosen_found =
+      let size : ℕ → ℕ = size_of p c list in
+      let xs : List ℕ = candidates p c list in
+      let m = least_among size xs 0 (member p c list 0 refl) in
+      let f = find_first (is_least size xs) 0 xs m.0 (ascends-where (is_candidate p c list) 0 (min p.window c.page + 1)) m.1 m.2 in
+      subst (IsFound (is_least size xs) xs) (sym (ap (λ o. unwrap_or o 0) f.1.found)) f.1
 
-pub chosen_candidate : (p : Parameters) (c : Context) (list : List ℕ) → is_candidate p c list (chosen p c list) ≡ true
-chosen_candidate p c list =
-    let f = chosen_found p c list in
-    let r : ℕ = chosen p c list in
-    elim (cases_lt r (min p.window c.page + 1)) [
-      | inl lt ↦ sym (is_in-where (is_candidate p c list) 0 (min p.window c.page + 1) r (omega arith) (omega arith)) ∙ f.there
-      | inr past ↦ absurd (true≢false (sym f.there ∙ in_past (min p.window c.page + 1) r (candidates p c list) (below-where (is_candidate p c list) 0 (min p.window c.page + 1) (min p.window c.page + 1) (omega arith)) past))
-    ]
+  pub chosen_candidate : is_candidate p c list (chosen p c list) ≡ true
+  chosen_candidate =
+      let f = chosen_found in
+      let r : ℕ = chosen p c list in
+      elim (cases_lt r (min p.window c.page + 1)) [
+        | inl lt ↦ sym (is_in-where (is_candidate p c list) 0 (min p.window c.page + 1) r (omega arith) (omega arith)) ∙ f.there
+        | inr past ↦ absurd (true≢false (sym f.there ∙ in_past (min p.window c.page + 1) r (candidates p c list)
+          (below-where (is_candidate p c list) 0 (min p.window c.page + 1) (min p.window c.page + 1) (omega arith)) past))
+      ]
 
-pub chosen_shortest : (p : Parameters) (c : Context) (list : List ℕ) (r : ℕ) → is_candidate p c list r ≡ true → (size_of p c list (chosen p c list) ≤ size_of p c list r) × (r < chosen p c list → size_of p c list (chosen p c list) < size_of p c list r)
-chosen_shortest p c list r h =
-    let size : ℕ → ℕ = size_of p c list in
-    let xs : List ℕ = candidates p c list in
-    let f = chosen_found p c list in
-    let best : ℕ = chosen p c list in
-    let none_less : (s : ℕ) → is_in s xs ≡ true → size best ≤ size s = λ s there. leb-true (size best) (size s) (all_in (λ s. leb (size best) (size s)) xs s f.passes there) in (
-      none_less r (member p c list r h),
-      λ lt. let g = some_fails (λ s. leb (size r) (size s)) xs (f.first r (member p c list r h) lt) in let less = leb-false (size r) (size g.0) g.2 in let low = none_less g.0 g.1 in omega (arith, less, low),
-    )
+  pub chosen_shortest : (r : ℕ) → is_candidate p c list r ≡ true
+      → (size_of p c list (chosen p c list) ≤ size_of p c list r) × (r < chosen p c list → size_of p c list (chosen p c list) < size_of p c list r)
+  chosen_shortest r h =
+      let size : ℕ → ℕ = size_of p c list in
+      let xs : List ℕ = candidates p c list in
+      let f = chosen_found in
+      let best : ℕ = chosen p c list in
+      let none_less : (s : ℕ) → is_in s xs ≡ true → size best ≤ size s = λ s there. leb-true (size best) (size s) (all_in (λ s. leb (size best) (size s)) xs s f.passes there) in (
+        none_less r (member p c list r h),
+        λ lt. let g = some_fails (λ s. leb (size r) (size s)) xs (f.first r (member p c list r h) lt) in let less = leb-false (size r) (size g.0) g.2 in let low =
+          none_less g.0 g.1 in omega (arith, less, low),
+      )

@@ -1,5 +1,6 @@
 -- What is written of the successors that are not copied is read as these successors.
-use Rattle.std.proofs.Common.{◌≡◌, ℕ, zero, suc, ◌+◌, ◌-◌, ◌*◌, ◌<◌, ◌≤◌, ltb, leb, eqb, Bool, true, false, ◌&&◌, ◌||◌, List, [], ◌∷◌, ◌++◌, length, length-append, map, sum, Option, Some, None, refl, sym, ap, subst, ◌∙◌, inl, inr, arith, append_assoc}
+use Rattle.std.proofs.Common.{◌≡◌, ℕ, zero, suc, ◌+◌, ◌-◌, ◌*◌, ◌<◌, ◌≤◌, ltb, leb, eqb, Bool, true, false, ◌&&◌, ◌||◌, List}
+use Rattle.std.proofs.Common.{[], ◌∷◌, ◌++◌, length, length-append, map, sum, Option, Some, None, refl, sym, ap, subst, ◌∙◌, inl, inr, arith, append_assoc}
 use Rattle.std.specs.Prelude.{filter}
 use Rattle.std.specs.List.{flat_map, range_with_len}
 use Rattle.std.proofs.Math.Nat.{suc-mul}
@@ -28,7 +29,8 @@ use Rattle.wg_greedy.specs.Fields.{Written, written, bits_of_fields, all_have_wo
 use Rattle.wg_greedy.proofs.NoReference.{Low, cut_low}
 use Rattle.wg_greedy.proofs.ProperFields.{Admits, admits_append, admitted_stand, values_of}
 use Rattle.wg_greedy.proofs.ProperStages.{IsPastCopies}
-use Rattle.wg_greedy.proofs.ProperReading.{with_extras, IsCounted, next_end, admits_count, admits_left, admits_length, admits_residual, last_push, least_after, IsPastLast, IsLast, left_is, residual_is}
+use Rattle.wg_greedy.proofs.ProperReading.{with_extras, IsCounted, next_end, admits_count, admits_left, admits_length}
+use Rattle.wg_greedy.proofs.ProperReading.{admits_residual, last_push, least_after, IsPastLast, IsLast, left_is, residual_is}
 
 -- ---- the runs that are long enough
 
@@ -83,70 +85,78 @@ Counts p c s xs count = (n : Option ℕ) × (value_or_0 n ≡ count) × IsCounte
 some_length : (xs : List ℕ) → has_some xs ≡ ltb 0 (length xs)
 some_length xs = grind arith
 
-count_read : (p : Parameters) (c : Context) (s : SoFar) (xs : List ℕ) → IsPastCopies p c s → extra c s ≡ length xs → length (intervals_of p.interval xs) * p.interval ≤ extra c s → Counts p c s xs (length (intervals_of p.interval xs))
-count_read p c s xs past all few =
-    let count : ℕ = length (intervals_of p.interval xs) in
-    let same : has_some xs ≡ ltb 0 (extra c s) = some_length xs ∙ ap (ltb 0) (sym all) in
-    let more : List Written = written field.IntervalCount Gamma count ∷ [] in
-    elim (cases_Bool (has_some xs && ltb 0 p.interval)) [
-      | inl h ↦
-          let asked : (ltb 0 (extra c s) && ltb 0 p.interval && true) ≡ true = and_from _ _ (ap (λ b. b && ltb 0 p.interval) (sym same) ∙ h) refl in
-          let one : Admits p c (with_extras s None [] [] []) more (with_extras s (Some count) [] [] []) = admits_count p c s (with_extras s (Some count) [] [] []) None [] [] [] count [] past asked few refl in
-          (Some count, refl, counted_once (ltb 0 (extra c s) && ltb 0 p.interval), subst (λ fs. Admits p c s fs (with_extras s (Some count) [] [] [])) (sym (cond-true _ more [] h)) (subst (λ (z : SoFar). Admits p c z more (with_extras s (Some count) [] [] [])) (sym (still_there p c s past)) one))
-      | inr h ↦
-          let none : 0 ≡ count = sym (ap length (no_intervals p.interval xs h)) in
-          let passed : IsCounted p c s None = ap (λ b. b && true) (ap (λ b. b && ltb 0 p.interval) (sym same) ∙ h) in
-          (None, none, passed, subst (λ fs. Admits p c s fs (with_extras s None [] [] [])) (sym (cond-false _ more [] h)) (sym (still_there p c s past)))
-    ]
-  where
-    counted_once : (b : Bool) → (b && false) ≡ false
-    counted_once true = refl
-    counted_once false = refl
+module _ (p : Parameters) (c : Context) (s : SoFar) where
+  count_read : (xs : List ℕ) → IsPastCopies p c s → extra c s ≡ length xs → length (intervals_of p.interval xs) * p.interval ≤ extra c s → Counts p c s xs (length (intervals_of p.interval xs))
+  count_read xs past all few =
+      let count : ℕ = length (intervals_of p.interval xs) in
+      let same : has_some xs ≡ ltb 0 (extra c s) = some_length xs ∙ ap (ltb 0) (sym all) in
+      let more : List Written = written field.IntervalCount Gamma count ∷ [] in
+      elim (cases_Bool (has_some xs && ltb 0 p.interval)) [
+        | inl h ↦
+            let asked : (ltb 0 (extra c s) && ltb 0 p.interval && true) ≡ true = and_from _ _ (ap (λ b. b && ltb 0 p.interval) (sym same) ∙ h) refl in
+            let one : Admits p c (with_extras s None [] [] []) more (with_extras s (Some count) [] [] []) =
+              admits_count p c s (with_extras s (Some count) [] [] []) None [] [] [] count [] past asked few refl in
+            (Some count, refl, counted_once (ltb 0 (extra c s) && ltb 0 p.interval), subst (λ fs. Admits p c s fs (with_extras s (Some count) [] [] []))
+              (sym (cond-true _ more [] h)) (subst (λ (z : SoFar). Admits p c z more (with_extras s (Some count) [] [] [])) (sym (still_there p c s past)) one))
+        | inr h ↦
+            let none : 0 ≡ count = sym (ap length (no_intervals p.interval xs h)) in
+            let passed : IsCounted p c s None = ap (λ b. b && true) (ap (λ b. b && ltb 0 p.interval) (sym same) ∙ h) in
+            (None, none, passed, subst (λ fs. Admits p c s fs (with_extras s None [] [] [])) (sym (cond-false _ more [] h)) (sym (still_there p c s past)))
+      ]
+    where
+      counted_once : (b : Bool) → (b && false) ≡ false
+      counted_once true = refl
+      counted_once false = refl
 
-    no_intervals : (least : ℕ) (xs : List ℕ) → (has_some xs && ltb 0 least) ≡ false → intervals_of least xs ≡ []
-    no_intervals least [] h = ap (filter (is_long least)) no_runs
-    no_intervals least (x ∷ xs) h = none_long least (runs_of (x ∷ xs)) h
+      no_intervals : (least : ℕ) (xs : List ℕ) → (has_some xs && ltb 0 least) ≡ false → intervals_of least xs ≡ []
+      no_intervals least [] h = ap (filter (is_long least)) no_runs
+      no_intervals least (x ∷ xs) h = none_long least (runs_of (x ∷ xs)) h
 
--- ---- the intervals
+  -- ---- the intervals
 
--- the intervals rs are still to come
-intervals_read : (p : Parameters) (c : Context) (s : SoFar) (n : Option ℕ) (ls ks : List ℕ) (past : Option ℕ) (rs : List Run) → IsPastCopies p c s → IsCounted p c s n → length ks ≡ length ls → length ls + length rs ≡ value_or_0 n
-    → IsPastLast past ls ks → Apart p.nodes p.interval (least_after past) rs → sum ks + sum (lengths_of rs) ≤ extra c s
-    → Admits p c (with_extras s n ls ks []) (interval_fields c.page p.interval past rs) (with_extras s n (ls ++ lefts_of rs) (ks ++ lengths_of rs) [])
-intervals_read p c s n ls ks past [] after counted even all last apart room = λ i. with_extras s n (append-nil ls i) (append-nil ks i) []
-intervals_read p c s n ls ks past (r ∷ rs) after counted even all last apart room =
-    let l : ℕ = r.left in
-    let k : ℕ = r.length in
-    let ls' : List ℕ = ls ++ l ∷ [] in
-    let ks' : List ℕ = ks ++ k ∷ [] in
-    let one_left : length ls' ≡ length ls + 1 = length_push ls l in
-    let one_length : length ks' ≡ length ks + 1 = length_push ks k in
-    let total : sum (lengths_of (r ∷ rs)) ≡ k + sum (lengths_of rs) = sum_cons k (lengths_of rs) in
-    let ends : last_of ls' + last_of ks' ≡ l + k = omega (arith, last_push ls l, last_push ks k) in
-    let rest : Admits p c (with_extras s n ls' ks' []) (interval_fields c.page p.interval (Some (l + k)) rs) (with_extras s n (ls' ++ lefts_of rs) (ks' ++ lengths_of rs) []) =
-    intervals_read p c s n ls' ks' (Some (l + k)) rs after counted (omega (arith, even, one_left, one_length)) (omega (arith, all, one_left)) (omega (arith, one_left), ends) apart.4 (omega (arith, sum_push ks k, total, room)) in
-    let same : with_extras s n (ls' ++ lefts_of rs) (ks' ++ lengths_of rs) [] ≡ with_extras s n (ls ++ lefts_of (r ∷ rs)) (ks ++ lengths_of (r ∷ rs)) [] = λ i. with_extras s n (append_assoc ls (l ∷ []) (lefts_of rs) i) (append_assoc ks (k ∷ []) (lengths_of rs) i) [] in
-    let t : SoFar = with_extras s n (ls ++ lefts_of (r ∷ rs)) (ks ++ lengths_of (r ∷ rs)) [] in
-    let long : Admits p c (with_extras s n ls' ks []) (written field.Length Gamma (k - p.interval) ∷ interval_fields c.page p.interval (Some (l + k)) rs) t =
-    admits_length p c s t n ls' ks [] k l (interval_fields c.page p.interval (Some (l + k)) rs) after counted (omega (arith, even, one_left)) (last_push ls l) apart.2 (omega (arith, total, room)) apart.3
-    (subst (λ (z : SoFar). Admits p c (with_extras s n ls' ks' []) (interval_fields c.page p.interval (Some (l + k)) rs) z) same rest) in
-    admits_left p c s t n ls ks [] (stored_gap c.page past l) l (written field.Length Gamma (k - p.interval) ∷ interval_fields c.page p.interval (Some (l + k)) rs) after counted even (omega (arith, all)) (left_is c s n ls ks [] past l last apart.0) (omega (arith, apart.1, apart.3)) long
+  -- the intervals rs are still to come
+  intervals_read : (n : Option ℕ) (ls ks : List ℕ) (past : Option ℕ) (rs : List Run) → IsPastCopies p c s → IsCounted p c s n → length ks ≡ length ls
+      → length ls + length rs ≡ value_or_0 n → IsPastLast past ls ks → Apart p.nodes p.interval (least_after past) rs → sum ks + sum (lengths_of rs) ≤ extra c s
+      → Admits p c (with_extras s n ls ks []) (interval_fields c.page p.interval past rs) (with_extras s n (ls ++ lefts_of rs) (ks ++ lengths_of rs) [])
+  intervals_read n ls ks past [] after counted even all last apart room = λ i. with_extras s n (append-nil ls i) (append-nil ks i) []
+  intervals_read n ls ks past (r ∷ rs) after counted even all last apart room =
+      let l : ℕ = r.left in
+      let k : ℕ = r.length in
+      let ls' : List ℕ = ls ++ l ∷ [] in
+      let ks' : List ℕ = ks ++ k ∷ [] in
+      let one_left : length ls' ≡ length ls + 1 = length_push ls l in
+      let one_length : length ks' ≡ length ks + 1 = length_push ks k in
+      let total : sum (lengths_of (r ∷ rs)) ≡ k + sum (lengths_of rs) = sum_cons k (lengths_of rs) in
+      let ends : last_of ls' + last_of ks' ≡ l + k = omega (arith, last_push ls l, last_push ks k) in
+      let rest : Admits p c (with_extras s n ls' ks' []) (interval_fields c.page p.interval (Some (l + k)) rs) (with_extras s n (ls' ++ lefts_of rs) (ks' ++ lengths_of rs) []) =
+      intervals_read n ls' ks' (Some (l + k)) rs after counted (omega (arith, even, one_left, one_length)) (omega (arith, all, one_left)) (omega (arith, one_left), ends)
+        apart.4 (omega (arith, sum_push ks k, total, room)) in
+      let same : with_extras s n (ls' ++ lefts_of rs) (ks' ++ lengths_of rs) [] ≡ with_extras s n (ls ++ lefts_of (r ∷ rs)) (ks ++ lengths_of (r ∷ rs)) [] =
+        λ i. with_extras s n (append_assoc ls (l ∷ []) (lefts_of rs) i) (append_assoc ks (k ∷ []) (lengths_of rs) i) [] in
+      let t : SoFar = with_extras s n (ls ++ lefts_of (r ∷ rs)) (ks ++ lengths_of (r ∷ rs)) [] in
+      let long : Admits p c (with_extras s n ls' ks []) (written field.Length Gamma (k - p.interval) ∷ interval_fields c.page p.interval (Some (l + k)) rs) t =
+      admits_length p c s t n ls' ks [] k l (interval_fields c.page p.interval (Some (l + k)) rs) after counted (omega (arith, even, one_left)) (last_push ls l) apart.2
+        (omega (arith, total, room)) apart.3
+      (subst (λ (z : SoFar). Admits p c (with_extras s n ls' ks' []) (interval_fields c.page p.interval (Some (l + k)) rs) z) same rest) in
+      admits_left p c s t n ls ks [] (stored_gap c.page past l) l (written field.Length Gamma (k - p.interval) ∷ interval_fields c.page p.interval (Some (l + k)) rs)
+        after counted even (omega (arith, all)) (left_is c s n ls ks [] past l last apart.0) (omega (arith, apart.1, apart.3)) long
 
--- ---- the residuals
+  -- ---- the residuals
 
--- the residuals zs are still to come
-residuals_read : (p : Parameters) (c : Context) (s : SoFar) (n : Option ℕ) (ls ks ys : List ℕ) (last : Option ℕ) (zs : List ℕ) → IsPastCopies p c s → IsCounted p c s n → length ks ≡ length ls → value_or_0 n ≤ length ls
-    → IsLast last ys → Ascends (least_after last) zs → Below p.nodes zs → sum ks + length ys + length zs ≤ extra c s
-    → Admits p c (with_extras s n ls ks ys) (residual_fields p.residuals c.page last zs) (with_extras s n ls ks (ys ++ zs))
-residuals_read p c s n ls ks ys last [] past counted even all is up low room = λ i. with_extras s n ls ks (append-nil ys i)
-residuals_read p c s n ls ks ys last (z ∷ zs) past counted even all is up low room =
-    let ys' : List ℕ = ys ++ z ∷ [] in
-    let one : length ys' ≡ length ys + 1 = length_push ys z in
-    let rest : Admits p c (with_extras s n ls ks ys') (residual_fields p.residuals c.page (Some z) zs) (with_extras s n ls ks (ys' ++ zs)) =
-    residuals_read p c s n ls ks ys' (Some z) zs past counted even all (omega (arith, one), last_push ys z) up.1 low.1 (omega (arith, one, room)) in
-    let t : SoFar = with_extras s n ls ks (ys ++ z ∷ zs) in
-    admits_residual p c s t n ls ks ys (stored_gap c.page last z) z (residual_fields p.residuals c.page (Some z) zs) past counted even all (omega (arith, room)) (residual_is c s n ls ks ys last z is up.0) low.0
-    (subst (λ xs. Admits p c (with_extras s n ls ks ys') (residual_fields p.residuals c.page (Some z) zs) (with_extras s n ls ks xs)) (append_assoc ys (z ∷ []) zs) rest)
+  -- the residuals zs are still to come
+  residuals_read : (n : Option ℕ) (ls ks ys : List ℕ) (last : Option ℕ) (zs : List ℕ) → IsPastCopies p c s → IsCounted p c s n → length ks ≡ length ls
+      → value_or_0 n ≤ length ls → IsLast last ys → Ascends (least_after last) zs → Below p.nodes zs → sum ks + length ys + length zs ≤ extra c s
+      → Admits p c (with_extras s n ls ks ys) (residual_fields p.residuals c.page last zs) (with_extras s n ls ks (ys ++ zs))
+  residuals_read n ls ks ys last [] past counted even all is up low room = λ i. with_extras s n ls ks (append-nil ys i)
+  residuals_read n ls ks ys last (z ∷ zs) past counted even all is up low room =
+      let ys' : List ℕ = ys ++ z ∷ [] in
+      let one : length ys' ≡ length ys + 1 = length_push ys z in
+      let rest : Admits p c (with_extras s n ls ks ys') (residual_fields p.residuals c.page (Some z) zs) (with_extras s n ls ks (ys' ++ zs)) =
+      residuals_read n ls ks ys' (Some z) zs past counted even all (omega (arith, one), last_push ys z) up.1 low.1 (omega (arith, one, room)) in
+      let t : SoFar = with_extras s n ls ks (ys ++ z ∷ zs) in
+      admits_residual p c s t n ls ks ys (stored_gap c.page last z) z (residual_fields p.residuals c.page (Some z) zs) past counted even all (omega (arith, room))
+        (residual_is c s n ls ks ys last z is up.0) low.0
+      (subst (λ xs. Admits p c (with_extras s n ls ks ys') (residual_fields p.residuals c.page (Some z) zs) (with_extras s n ls ks xs)) (append_assoc ys (z ∷ []) zs) rest)
 
 -- ---- members
 
@@ -183,7 +193,8 @@ pub record ExtrasRead (p : Parameters) (c : Context) (s t : SoFar) (xs : List �
   pub blocks : t.blocks ≡ s.blocks
   pub members : (y : ℕ) → (is_covered t.lefts t.lengths y || is_in y t.residuals) ≡ is_in y xs
 
-pub extras_admitted : (p : Parameters) (c : Context) (s : SoFar) (xs : List ℕ) → IsPastCopies p c s → Ascends 0 xs → Below p.nodes xs → extra c s ≡ length xs → (t : SoFar) × Admits p c s (extra_fields p c.page xs) t × ExtrasRead p c s t xs
+pub extras_admitted : (p : Parameters) (c : Context) (s : SoFar) (xs : List ℕ) → IsPastCopies p c s → Ascends 0 xs → Below p.nodes xs → extra c s ≡ length xs
+    → (t : SoFar) × Admits p c s (extra_fields p c.page xs) t × ExtrasRead p c s t xs
 extras_admitted p c s xs past up low all =
     let runs : List Run = intervals_of p.interval xs in
     let ys : List ℕ = residuals_of p.interval xs in
@@ -203,9 +214,11 @@ extras_admitted p c s xs past up low all =
     let last : Admits p c (with_extras s n ls ks []) (residual_fields p.residuals c.page None ys) (with_extras s n ls ks ys) =
     residuals_read p c s n ls ks [] None ys past counts.2 even (omega (arith, count)) refl (parts_ascend p.interval xs up).1 low_residuals (omega (arith, size)) in
     let t : SoFar = with_extras s n ls ks ys in
-    let front = admits_append p c s (with_extras s n [] [] []) (with_extras s n ls ks []) (count_fields (has_some xs) p.interval (length runs)) (interval_fields c.page p.interval None runs) counts.3 middle in (
+    let front =
+      admits_append p c s (with_extras s n [] [] []) (with_extras s n ls ks []) (count_fields (has_some xs) p.interval (length runs)) (interval_fields c.page p.interval None runs) counts.3 middle in (
       t,
-      admits_append p c s (with_extras s n ls ks []) t (count_fields (has_some xs) p.interval (length runs) ++ interval_fields c.page p.interval None runs) (residual_fields p.residuals c.page None ys) front last,
+      admits_append p c s (with_extras s n ls ks []) t (count_fields (has_some xs) p.interval (length runs) ++ interval_fields c.page p.interval None runs)
+        (residual_fields p.residuals c.page None ys) front last,
       record {
         ends = next_end p c s n ls ks ys past counts.2 even (omega (arith, count)) (omega (arith, size));
         outdegree = refl;
@@ -215,11 +228,10 @@ extras_admitted p c s xs past up low all =
       },
     )
 
-pub extras_stand : (p : Parameters) (c : Context) (s : SoFar) (xs : List ℕ) (before rest : List Bool)
-    → IsWithinLimits p → c.page < p.nodes → IsPastCopies p c s → Ascends 0 xs → Below p.nodes xs → extra c s ≡ length xs
-    → all_have_words (extra_fields p c.page xs) ≡ true
-    → (t : SoFar) × (vs : List ℕ) × Fields p c (before ++ (bits_of_fields (extra_fields p c.page xs) ++ rest)) s (length before) vs t (length before + length (bits_of_fields (extra_fields p c.page xs)))
-    × ExtrasRead p c s t xs
+pub extras_stand : (p : Parameters) (c : Context) (s : SoFar) (xs : List ℕ) (before rest : List Bool) → IsWithinLimits p → c.page < p.nodes → IsPastCopies p c s
+    → Ascends 0 xs → Below p.nodes xs → extra c s ≡ length xs → all_have_words (extra_fields p c.page xs) ≡ true
+    → (t : SoFar) × (vs : List ℕ) × Fields p c (before ++ (bits_of_fields (extra_fields p c.page xs) ++ rest)) s (length before) vs t
+        (length before + length (bits_of_fields (extra_fields p c.page xs))) × ExtrasRead p c s t xs
 extras_stand p c s xs before rest within here past up low all have =
     let read = extras_admitted p c s xs past up low all in
     (read.0, values_of (extra_fields p c.page xs), admitted_stand p c s read.0 (extra_fields p c.page xs) before rest have read.1, read.2)

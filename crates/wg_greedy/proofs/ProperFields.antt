@@ -19,7 +19,8 @@ use Rattle.wg_greedy.specs.Fields.{Written, bits_of_fields, all_have_words}
 
 -- ---- values that stand
 
-pub fields_append : (p : Parameters) (c : Context) (bits : List Bool) (s u t : SoFar) (at mid end : ℕ) (vs ws : List ℕ) → Fields p c bits s at vs u mid → Fields p c bits u mid ws t end → Fields p c bits s at (vs ++ ws) t end
+pub fields_append : (p : Parameters) (c : Context) (bits : List Bool) (s u t : SoFar) (at mid end : ℕ) (vs ws : List ℕ) → Fields p c bits s at vs u mid
+    → Fields p c bits u mid ws t end → Fields p c bits s at (vs ++ ws) t end
 fields_append p c bits s u t at mid end [] ws first second = subst (λ k. Fields p c bits s k ws t end) first.1 (subst (λ (z : SoFar). Fields p c bits z mid ws t end) first.0 second)
 fields_append p c bits s u t at mid end (v ∷ vs) ws first second = (first.0, first.1, first.2, fields_append p c bits first.0 u t first.1 mid end vs ws first.3 second)
 
@@ -27,12 +28,13 @@ drop_here : (before z : List Bool) → drop (length before) (before ++ z) ≡ z
 drop_here [] z = refl
 drop_here (b ∷ before) z = drop_here before z
 
-pub one_field : (p : Parameters) (c : Context) (s : SoFar) (f : Field) (code : Code) (v : ℕ) (before rest : List Bool) → next p c s ≡ need.Read f code → v ≤ top code → refusal p c s f v ≡ None
-    → Fields p c (before ++ (word code v ++ rest)) s (length before) (v ∷ []) (after p c s f v) (length before + length (word code v))
+pub one_field : (p : Parameters) (c : Context) (s : SoFar) (f : Field) (code : Code) (v : ℕ) (before rest : List Bool) → next p c s ≡ need.Read f code → v ≤ top code
+    → refusal p c s f v ≡ None → Fields p c (before ++ (word code v ++ rest)) s (length before) (v ∷ []) (after p c s f v) (length before + length (word code v))
 one_field p c s f code v before rest is has fine = grind (arith, word_reads, drop_here)
 
 -- the check of what is copied has no bits
-pub one_check : (p : Parameters) (c : Context) (bits : List Bool) (s : SoFar) (at : ℕ) → next p c s ≡ need.Check → refusal p c s field.Copied 0 ≡ None → Fields p c bits s at (0 ∷ []) (after p c s field.Copied 0) at
+pub one_check : (p : Parameters) (c : Context) (bits : List Bool) (s : SoFar) (at : ℕ) → next p c s ≡ need.Check → refusal p c s field.Copied 0 ≡ None
+    → Fields p c bits s at (0 ∷ []) (after p c s field.Copied 0) at
 one_check p c bits s at is fine = grind arith
 
 -- ---- fields that are needed and allowed
@@ -72,9 +74,14 @@ admitted_stand p c s t (f ∷ fs) before rest have admits =
     let u : SoFar = after p c s f.field f.value in
     let parts = and_parts (leb f.value (top f.code)) (all_have_words fs) have in
     let bits : before ++ ((w ++ more) ++ rest) ≡ before ++ (w ++ (more ++ rest)) = ap (λ z. before ++ z) (append_assoc w more rest) in
-    let first : Fields p c (before ++ (w ++ (more ++ rest))) s (length before) (f.value ∷ []) u (length before + length w) = one_field p c s f.field f.code f.value before (more ++ rest) admits.0 (leb-true f.value (top f.code) parts.0) admits.1 in
-    let later : Fields p c ((before ++ w) ++ (more ++ rest)) u (length (before ++ w)) (values_of fs) t (length (before ++ w) + length more) = admitted_stand p c u t fs (before ++ w) rest parts.1 admits.2 in
+    let first : Fields p c (before ++ (w ++ (more ++ rest))) s (length before) (f.value ∷ []) u (length before + length w) =
+      one_field p c s f.field f.code f.value before (more ++ rest) admits.0 (leb-true f.value (top f.code) parts.0) admits.1 in
+    let later : Fields p c ((before ++ w) ++ (more ++ rest)) u (length (before ++ w)) (values_of fs) t (length (before ++ w) + length more) =
+      admitted_stand p c u t fs (before ++ w) rest parts.1 admits.2 in
     let same : Fields p c (before ++ (w ++ (more ++ rest))) u (length before + length w) (values_of fs) t (length (before ++ w) + length more) =
-    subst (λ k. Fields p c (before ++ (w ++ (more ++ rest))) u k (values_of fs) t (length (before ++ w) + length more)) (length-append before w) (subst (λ z. Fields p c z u (length (before ++ w)) (values_of fs) t (length (before ++ w) + length more)) (append_assoc before w (more ++ rest)) later) in
-    let both : Fields p c (before ++ (w ++ (more ++ rest))) s (length before) (f.value ∷ values_of fs) t (length (before ++ w) + length more) = fields_append p c (before ++ (w ++ (more ++ rest))) s u t (length before) (length before + length w) (length (before ++ w) + length more) (f.value ∷ []) (values_of fs) first same in
-    subst (λ k. Fields p c (before ++ ((w ++ more) ++ rest)) s (length before) (f.value ∷ values_of fs) t k) (end_moved before w more) (subst (λ z. Fields p c z s (length before) (f.value ∷ values_of fs) t (length (before ++ w) + length more)) (sym bits) both)
+    subst (λ k. Fields p c (before ++ (w ++ (more ++ rest))) u k (values_of fs) t (length (before ++ w) + length more)) (length-append before w)
+      (subst (λ z. Fields p c z u (length (before ++ w)) (values_of fs) t (length (before ++ w) + length more)) (append_assoc before w (more ++ rest)) later) in
+    let both : Fields p c (before ++ (w ++ (more ++ rest))) s (length before) (f.value ∷ values_of fs) t (length (before ++ w) + length more) =
+      fields_append p c (before ++ (w ++ (more ++ rest))) s u t (length before) (length before + length w) (length (before ++ w) + length more) (f.value ∷ []) (values_of fs) first same in
+    subst (λ k. Fields p c (before ++ ((w ++ more) ++ rest)) s (length before) (f.value ∷ values_of fs) t k) (end_moved before w more)
+      (subst (λ z. Fields p c z s (length before) (f.value ∷ values_of fs) t (length (before ++ w) + length more)) (sym bits) both)

@@ -40,52 +40,58 @@ next_later : (p : Parameters) (c : Context) (s : SoFar) (n : Option ℕ) (ls ks 
 unfolding next
 next_later p c s n ls ks ys past = grind arith
 
-next_residual : (p : Parameters) (c : Context) (s : SoFar) (n : Option ℕ) (ls ks ys : List ℕ) → IsPastCopies p c s → IsCounted p c s n → length ks ≡ length ls → value_or_0 n ≤ length ls
-    → next p c (with_extras s n ls ks ys) ≡ cond (ltb 0 (missing c (with_extras s n ls ks ys))) (need.Read field.Residual p.residuals) need.End
+next_residual : (p : Parameters) (c : Context) (s : SoFar) (n : Option ℕ) (ls ks ys : List ℕ) → IsPastCopies p c s → IsCounted p c s n → length ks ≡ length ls
+    → value_or_0 n ≤ length ls → next p c (with_extras s n ls ks ys) ≡ cond (ltb 0 (missing c (with_extras s n ls ks ys))) (need.Read field.Residual p.residuals) need.End
 next_residual p c s n ls ks ys past counted even all = grind (arith, cond-false, le-ltb, next_later)
 
-pub next_end : (p : Parameters) (c : Context) (s : SoFar) (n : Option ℕ) (ls ks ys : List ℕ) → IsPastCopies p c s → IsCounted p c s n → length ks ≡ length ls → value_or_0 n ≤ length ls → extra c s ≤ sum ks + length ys
-    → next p c (with_extras s n ls ks ys) ≡ need.End
+pub next_end : (p : Parameters) (c : Context) (s : SoFar) (n : Option ℕ) (ls ks ys : List ℕ) → IsPastCopies p c s → IsCounted p c s n → length ks ≡ length ls
+    → value_or_0 n ≤ length ls → extra c s ≤ sum ks + length ys → next p c (with_extras s n ls ks ys) ≡ need.End
 next_end p c s n ls ks ys past counted even all enough = next_residual p c s n ls ks ys past counted even all ∙ cond-false _ _ _ (le-ltb 0 (extra c s - (sum ks + length ys)) (omega (arith, enough)))
 
 -- ---- one field
 
-one_admitted : (p : Parameters) (c : Context) (s u t : SoFar) (f : Field) (code : Code) (v : ℕ) (fs : List Written) → next p c s ≡ need.Read f code → refusal p c s f v ≡ None → after p c s f v ≡ u → Admits p c u fs t → Admits p c s (written f code v ∷ fs) t
+one_admitted : (p : Parameters) (c : Context) (s u t : SoFar) (f : Field) (code : Code) (v : ℕ) (fs : List Written) → next p c s ≡ need.Read f code
+    → refusal p c s f v ≡ None → after p c s f v ≡ u → Admits p c u fs t → Admits p c s (written f code v ∷ fs) t
 one_admitted p c s u t f code v fs is fine e rest = (is, fine, subst (λ (z : SoFar). Admits p c z fs t) (sym e) rest)
 
-pub admits_count : (p : Parameters) (c : Context) (s t : SoFar) (n : Option ℕ) (ls ks ys : List ℕ) (v : ℕ) (fs : List Written) → IsPastCopies p c s → (ltb 0 (extra c s) && ltb 0 p.interval && is_none n) ≡ true → v * p.interval ≤ extra c s
-    → Admits p c (with_extras s (Some v) ls ks ys) fs t → Admits p c (with_extras s n ls ks ys) (written field.IntervalCount Gamma v ∷ fs) t
-unfolding after refusal
-admits_count p c s t n ls ks ys v fs past asked few rest = grind (arith, cond-true, cond-false, le-ltb, with_extras, next_later, one_admitted)
+module _ (p : Parameters) (c : Context) (s t : SoFar) (n : Option ℕ) (ls ks ys : List ℕ) where
+  pub admits_count : (v : ℕ) (fs : List Written) → IsPastCopies p c s → (ltb 0 (extra c s) && ltb 0 p.interval && is_none n) ≡ true → v * p.interval ≤ extra c s
+      → Admits p c (with_extras s (Some v) ls ks ys) fs t → Admits p c (with_extras s n ls ks ys) (written field.IntervalCount Gamma v ∷ fs) t
+  unfolding after refusal
+  admits_count v fs past asked few rest = grind (arith, cond-true, cond-false, le-ltb, with_extras, next_later, one_admitted)
 
-pub admits_left : (p : Parameters) (c : Context) (s t : SoFar) (n : Option ℕ) (ls ks ys : List ℕ) (v l : ℕ) (fs : List Written) → IsPastCopies p c s → IsCounted p c s n → length ks ≡ length ls → length ls < value_or_0 n
-    → own_left c (with_extras s n ls ks ys) v ≡ Some l → l < p.nodes → Admits p c (with_extras s n (ls ++ l ∷ []) ks ys) fs t → Admits p c (with_extras s n ls ks ys) (written field.Left Gamma v ∷ fs) t
-unfolding after refusal
-admits_left p c s t n ls ks ys v l fs past counted even more own low rest =
-    one_admitted p c (with_extras s n ls ks ys) (with_extras s n (ls ++ l ∷ []) ks ys) t field.Left Gamma v fs
-    (next_later p c s n ls ks ys past ∙ cond-false _ _ _ counted ∙ cond-false _ _ _ (le-ltb (length ks) (length ls) (omega (arith, even))) ∙ cond-true _ _ _ (lt-ltb (length ls) (value_or_0 n) more))
-    (cond-true _ _ _ (ap (is_page p) own ∙ lt-ltb l p.nodes low))
-    (ap (λ o. with_extras s n (ls ++ value_or_0 o ∷ []) ks ys) own) rest
+  pub admits_left : (v l : ℕ) (fs : List Written) → IsPastCopies p c s → IsCounted p c s n → length ks ≡ length ls → length ls < value_or_0 n
+      → own_left c (with_extras s n ls ks ys) v ≡ Some l → l < p.nodes → Admits p c (with_extras s n (ls ++ l ∷ []) ks ys) fs t
+      → Admits p c (with_extras s n ls ks ys) (written field.Left Gamma v ∷ fs) t
+  unfolding after refusal
+  admits_left v l fs past counted even more own low rest =
+      one_admitted p c (with_extras s n ls ks ys) (with_extras s n (ls ++ l ∷ []) ks ys) t field.Left Gamma v fs
+      (next_later p c s n ls ks ys past ∙ cond-false _ _ _ counted ∙ cond-false _ _ _ (le-ltb (length ks) (length ls) (omega (arith, even))) ∙ cond-true _ _ _ (lt-ltb (length ls) (value_or_0 n) more))
+      (cond-true _ _ _ (ap (is_page p) own ∙ lt-ltb l p.nodes low))
+      (ap (λ o. with_extras s n (ls ++ value_or_0 o ∷ []) ks ys) own) rest
 
--- the last of the left ends stands without a length
-pub admits_length : (p : Parameters) (c : Context) (s t : SoFar) (n : Option ℕ) (ls ks ys : List ℕ) (k l : ℕ) (fs : List Written) → IsPastCopies p c s → IsCounted p c s n → length ks < length ls
-    → last_of ls ≡ l → p.interval ≤ k → sum ks + length ys + k ≤ extra c s → l + k ≤ p.nodes → Admits p c (with_extras s n ls (ks ++ k ∷ []) ys) fs t → Admits p c (with_extras s n ls ks ys) (written field.Length Gamma (k - p.interval) ∷ fs) t
-unfolding after refusal
-admits_length p c s t n ls ks ys k l fs past counted odd last long room low rest =
-    let own : k - p.interval + p.interval ≡ k = omega (arith, long) in
-    one_admitted p c (with_extras s n ls ks ys) (with_extras s n ls (ks ++ k ∷ []) ys) t field.Length Gamma (k - p.interval) fs
-    (next_later p c s n ls ks ys past ∙ cond-false _ _ _ counted ∙ cond-true _ _ _ (lt-ltb (length ks) (length ls) odd))
-    (cond-false _ _ _ (or_from _ _ (le-ltb (extra c s - (sum ks + length ys)) (k - p.interval + p.interval) (omega (arith, own, room))) (le-ltb p.nodes (last_of ls + (k - p.interval) + p.interval) (omega (arith, last, long, low)))))
-    (ap (λ j. with_extras s n ls (ks ++ j ∷ []) ys) own) rest
+  -- the last of the left ends stands without a length
+  pub admits_length : (k l : ℕ) (fs : List Written) → IsPastCopies p c s → IsCounted p c s n → length ks < length ls → last_of ls ≡ l → p.interval ≤ k
+      → sum ks + length ys + k ≤ extra c s → l + k ≤ p.nodes → Admits p c (with_extras s n ls (ks ++ k ∷ []) ys) fs t
+      → Admits p c (with_extras s n ls ks ys) (written field.Length Gamma (k - p.interval) ∷ fs) t
+  unfolding after refusal
+  admits_length k l fs past counted odd last long room low rest =
+      let own : k - p.interval + p.interval ≡ k = omega (arith, long) in
+      one_admitted p c (with_extras s n ls ks ys) (with_extras s n ls (ks ++ k ∷ []) ys) t field.Length Gamma (k - p.interval) fs
+      (next_later p c s n ls ks ys past ∙ cond-false _ _ _ counted ∙ cond-true _ _ _ (lt-ltb (length ks) (length ls) odd))
+      (cond-false _ _ _ (or_from _ _ (le-ltb (extra c s - (sum ks + length ys)) (k - p.interval + p.interval) (omega (arith, own, room)))
+        (le-ltb p.nodes (last_of ls + (k - p.interval) + p.interval) (omega (arith, last, long, low)))))
+      (ap (λ j. with_extras s n ls (ks ++ j ∷ []) ys) own) rest
 
-pub admits_residual : (p : Parameters) (c : Context) (s t : SoFar) (n : Option ℕ) (ls ks ys : List ℕ) (v y : ℕ) (fs : List Written) → IsPastCopies p c s → IsCounted p c s n → length ks ≡ length ls → value_or_0 n ≤ length ls
-    → sum ks + length ys < extra c s → own_residual c (with_extras s n ls ks ys) v ≡ Some y → y < p.nodes → Admits p c (with_extras s n ls ks (ys ++ y ∷ [])) fs t → Admits p c (with_extras s n ls ks ys) (written field.Residual p.residuals v ∷ fs) t
-unfolding after refusal
-admits_residual p c s t n ls ks ys v y fs past counted even all room own low rest =
-    one_admitted p c (with_extras s n ls ks ys) (with_extras s n ls ks (ys ++ y ∷ [])) t field.Residual p.residuals v fs
-    (next_residual p c s n ls ks ys past counted even all ∙ cond-true _ _ _ (lt-ltb 0 (extra c s - (sum ks + length ys)) (omega (arith, room))))
-    (cond-true _ _ _ (ap (is_page p) own ∙ lt-ltb y p.nodes low))
-    (ap (λ o. with_extras s n ls ks (ys ++ value_or_0 o ∷ [])) own) rest
+  pub admits_residual : (v y : ℕ) (fs : List Written) → IsPastCopies p c s → IsCounted p c s n → length ks ≡ length ls → value_or_0 n ≤ length ls
+      → sum ks + length ys < extra c s → own_residual c (with_extras s n ls ks ys) v ≡ Some y → y < p.nodes → Admits p c (with_extras s n ls ks (ys ++ y ∷ [])) fs t
+      → Admits p c (with_extras s n ls ks ys) (written field.Residual p.residuals v ∷ fs) t
+  unfolding after refusal
+  admits_residual v y fs past counted even all room own low rest =
+      one_admitted p c (with_extras s n ls ks ys) (with_extras s n ls ks (ys ++ y ∷ [])) t field.Residual p.residuals v fs
+      (next_residual p c s n ls ks ys past counted even all ∙ cond-true _ _ _ (lt-ltb 0 (extra c s - (sum ks + length ys)) (omega (arith, room))))
+      (cond-true _ _ _ (ap (is_page p) own ∙ lt-ltb y p.nodes low))
+      (ap (λ o. with_extras s n ls ks (ys ++ value_or_0 o ∷ [])) own) rest
 
 -- ---- what a stored gap means
 
@@ -107,8 +113,10 @@ abbrev pub IsLast : Option ℕ → List ℕ → Type 0
 IsLast None ys = length ys ≡ 0
 IsLast (Some e) ys = (0 < length ys) × (last_of ys ≡ e)
 
-pub left_is : (c : Context) (s : SoFar) (n : Option ℕ) (ls ks ys : List ℕ) (past : Option ℕ) (l : ℕ) → IsPastLast past ls ks → least_after past ≤ l → own_left c (with_extras s n ls ks ys) (stored_gap c.page past l) ≡ Some l
+pub left_is : (c : Context) (s : SoFar) (n : Option ℕ) (ls ks ys : List ℕ) (past : Option ℕ) (l : ℕ) → IsPastLast past ls ks → least_after past ≤ l
+    → own_left c (with_extras s n ls ks ys) (stored_gap c.page past l) ≡ Some l
 left_is c s n ls ks ys past l h h2 = grind (arith, cond-true, cond-false, ne_eqb, eq-eqb, unfolds_from)
 
-pub residual_is : (c : Context) (s : SoFar) (n : Option ℕ) (ls ks ys : List ℕ) (last : Option ℕ) (y : ℕ) → IsLast last ys → least_after last ≤ y → own_residual c (with_extras s n ls ks ys) (stored_gap c.page last y) ≡ Some y
+pub residual_is : (c : Context) (s : SoFar) (n : Option ℕ) (ls ks ys : List ℕ) (last : Option ℕ) (y : ℕ) → IsLast last ys → least_after last ≤ y
+    → own_residual c (with_extras s n ls ks ys) (stored_gap c.page last y) ≡ Some y
 residual_is c s n ls ks ys last y h h2 = grind (arith, cond-true, cond-false, ne_eqb, eq-eqb, unfolds_from)

@@ -26,7 +26,8 @@ use Rattle.wg_intervals.specs.Canonical.{runs_of, is_long, intervals_of, residua
 use Rattle.wg_intervals.proofs.Maximal.{cut_of}
 use Rattle.wg_intervals.proofs.Divided.{are_once}
 use Rattle.wg_grammar.specs.declared.fault.Field.TheVariants as field
-use Rattle.wg_greedy.specs.Fields.{Written, written, bits_of_fields, stored_blocks, stored_gap, count_fields, interval_fields, residual_fields, extras, has_some, extra_fields, reference_fields, copy_fields, list_fields, record_fields}
+use Rattle.wg_greedy.specs.Fields.{Written, written, bits_of_fields, stored_blocks, stored_gap, count_fields, interval_fields}
+use Rattle.wg_greedy.specs.Fields.{residual_fields, extras, has_some, extra_fields, reference_fields, copy_fields, list_fields, record_fields}
 use Rattle.wg_greedy.proofs.Extra.{ascends-filter}
 use Rattle.wg_greedy.proofs.NoReference.{cut_low, cut_few, few_where, short_list}
 
@@ -91,7 +92,8 @@ pub residuals_short : (p : Parameters) (page : ℕ) (last : Option ℕ) (ys : Li
 residuals_short p page last [] within = omega arith
 residuals_short p page last (y ∷ ys) within =
     let rest : List Written = residual_fields p.residuals page (Some y) ys in
-    omega (arith, bits_more (written field.Residual p.residuals (stored_gap page last y)) rest, residual_short p.zeta p.residuals (stored_gap page last y) within.zeta within.residuals, residuals_short p page (Some y) ys within)
+    omega (arith, bits_more (written field.Residual p.residuals (stored_gap page last y)) rest, residual_short p.zeta p.residuals (stored_gap page last y) within.zeta
+      within.residuals, residuals_short p page (Some y) ys within)
 
 blocks_short : (p : Parameters) (vs : List ℕ) → IsWithinLimits p → length (bits_of_fields (map (written field.Block p.blocks) vs)) ≤ 2 ^ 8 * length vs
 blocks_short p [] within = omega arith
@@ -134,7 +136,8 @@ copies_short p r referenced list within =
     let blocks : List ℕ = canonical_blocks list referenced in
     let stored : List Written = map (written field.Block p.blocks) (stored_blocks blocks) in
     elim (cases_Bool (ltb 0 r)) [
-      | inl h ↦ rw h (omega (arith, bits_more (written field.BlockCount p.block_counts (length blocks)) stored, count_short p.block_counts (length blocks) within.block_counts, blocks_short p (stored_blocks blocks) within, stored_as_many blocks, few_blocks list referenced))
+      | inl h ↦ rw h (omega (arith, bits_more (written field.BlockCount p.block_counts (length blocks)) stored, count_short p.block_counts (length blocks)
+        within.block_counts, blocks_short p (stored_blocks blocks) within, stored_as_many blocks, few_blocks list referenced))
       | inr h ↦ rw h (omega arith)
     ]
 
@@ -160,7 +163,8 @@ others_short p page n xs within up low =
       (short_list 0 n xs up low),
     )
 
-list_short : (p : Parameters) (page r n : ℕ) (referenced list : List ℕ) → IsWithinLimits p → n ≤ 2 ^ 36 → r ≤ 2 ^ 36 → Ascends 0 list → Below n list → Ascends 0 referenced → Below n referenced → length (bits_of_fields (list_fields p page r referenced list)) ≤ 2 ^ 50
+list_short : (p : Parameters) (page r n : ℕ) (referenced list : List ℕ) → IsWithinLimits p → n ≤ 2 ^ 36 → r ≤ 2 ^ 36 → Ascends 0 list → Below n list
+    → Ascends 0 referenced → Below n referenced → length (bits_of_fields (list_fields p page r referenced list)) ≤ 2 ^ 50
 list_short p page r n referenced [] within few near up low up' low' = omega arith
 list_short p page r n referenced (y ∷ ys) within few near up low up' low' =
     let list : List ℕ = y ∷ ys in

@@ -56,7 +56,8 @@ few_inside least [] = omega arith
 few_inside least (r ∷ rs) =
     let rest = few_inside least rs in
     elim (cases_Bool (is_long least r)) [
-      | inl h ↦ let some = long_enough least r h in rw h (omega (arith, rest, some.0, some.1, length-append (numbers_of r) (flat_map numbers_of (filter (is_long least) rs)), length-range_with_len r.left r.length))
+      | inl h ↦ let some =
+          long_enough least r h in rw h (omega (arith, rest, some.0, some.1, length-append (numbers_of r) (flat_map numbers_of (filter (is_long least) rs)), length-range_with_len r.left r.length))
       | inr h ↦ rw h rest
     ]
 

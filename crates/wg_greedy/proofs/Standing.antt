@@ -26,25 +26,26 @@ arcs_known : (behind : List Whole) → sum_by (λ k. length k.list) (knowns behi
 arcs_known [] = refl
 arcs_known (w ∷ ws) = omega (arith, sum_by-cons (λ (k : Known). length k.list) w.known (knowns ws), sum_by-cons (λ (v : Whole). length v.known.list) w ws, arcs_known ws)
 
-same_context : (p : Parameters) (behind : List Whole) → context_after p (knowns behind) ≡ context_of p behind
-same_context p behind =
-    λ i. record { page = length-map behind (λ (w : Whole). w.known) i; arcs_before = arcs_known behind i; behind = take p.window (knowns behind) }
+module _ (p : Parameters) where
+  same_context : (behind : List Whole) → context_after p (knowns behind) ≡ context_of p behind
+  same_context behind =
+      λ i. record { page = length-map behind (λ (w : Whole). w.known) i; arcs_before = arcs_known behind i; behind = take p.window (knowns behind) }
 
--- ---- the reference that is written
+  -- ---- the reference that is written
 
--- the record of an empty list is the same by each reference, so none is written
-same_size : (p : Parameters) (c : Context) (r : ℕ) → size_of p c [] r ≡ size_of p c [] 0
-unfolding record_fields
-same_size p c r = refl
+  -- the record of an empty list is the same by each reference, so none is written
+  same_size : (c : Context) (r : ℕ) → size_of p c [] r ≡ size_of p c [] 0
+  unfolding record_fields
+  same_size c r = refl
 
-has_reference : (p : Parameters) (c : Context) (list : List ℕ) → reference_of list (chosen p c list) ≡ chosen p c list
-has_reference p c [] =
-    let r : ℕ = chosen p c [] in
-    elim (cases_lt 0 r) [
-      | inl some ↦ let less = (chosen_shortest p c [] 0 refl).1 some in absurd (omega (arith, less, same_size p c r))
-      | inr none ↦ omega (arith, none)
-    ]
-has_reference p c (y ∷ ys) = refl
+  has_reference : (c : Context) (list : List ℕ) → reference_of list (chosen p c list) ≡ chosen p c list
+  has_reference c [] =
+      let r : ℕ = chosen p c [] in
+      elim (cases_lt 0 r) [
+        | inl some ↦ let less = (chosen_shortest p c [] 0 refl).1 some in absurd (omega (arith, less, same_size c r))
+        | inr none ↦ omega (arith, none)
+      ]
+  has_reference c (y ∷ ys) = refl
 
 -- ---- the records that come
 
@@ -67,7 +68,8 @@ passed behind [] = behind
 passed behind (w ∷ ws) = passed (w ∷ behind) ws
 
 -- The canonical records of the lists to come stand at the bit at.
-pub records_stand : CanonicalIsProper → (p : Parameters) → IsWithinLimits p → (behind : List Whole) (lists : List (List ℕ)) (bits before rest : List Bool) (at : ℕ) → AreLists p lists → All (λ (k : Known). IsList p k.list) (knowns behind)
+pub records_stand : CanonicalIsProper → (p : Parameters) → IsWithinLimits p → (behind : List Whole) (lists : List (List ℕ)) (bits before rest : List Bool) (at : ℕ)
+    → AreLists p lists → All (λ (k : Known). IsList p k.list) (knowns behind)
     → length behind + length lists ≤ p.nodes → arcs_read behind + numbers_in lists ≤ p.arcs → bits ≡ before ++ (bits_after p (knowns behind) lists ++ rest) → at ≡ length before
     → Pages p bits behind at (wholes p (knowns behind) at lists) (passed behind (wholes p (knowns behind) at lists)) (at + length (bits_after p (knowns behind) lists))
 records_stand proper p within behind [] bits before rest at are known nodes arcs is start = (refl, omega arith)
@@ -83,8 +85,10 @@ records_stand proper p within behind (list ∷ lists) bits before rest at are kn
     let page : length (knowns behind) ≡ length behind = length-map behind (λ (v : Whole). v.known) in
     let cut : bits ≡ before ++ (first ++ (more ++ rest)) = is ∙ ap (λ z. before ++ z) (append_assoc first more rest) in
     let later : bits ≡ (before ++ first) ++ (more ++ rest) = cut ∙ sym (append_assoc before first (more ++ rest)) in
-    let stands : ReadsRecord p here (before ++ (first ++ (more ++ rest))) (length before) (Ok (record { known = record { list = list; depth = depth_of here.behind (reference_of list r) }; end = length before + size_of p here list r })) =
-    proper p here list r before (more ++ rest) within (omega (arith, page, nodes)) (All-take (λ (k : Known). IsList p k.list) p.window (knowns behind) known) are.0 (omega (arith, arcs_known behind, arcs, sum)) (chosen_candidate p here list) in
+    let stands : ReadsRecord p here (before ++ (first ++ (more ++ rest))) (length before)
+      (Ok (record { known = record { list = list; depth = depth_of here.behind (reference_of list r) }; end = length before + size_of p here list r })) =
+    proper p here list r before (more ++ rest) within (omega (arith, page, nodes)) (All-take (λ (k : Known). IsList p k.list) p.window (knowns behind) known) are.0
+      (omega (arith, arcs_known behind, arcs, sum)) (chosen_candidate p here list) in
     let whole : record { known = record { list = list; depth = depth_of here.behind (reference_of list r) }; end = length before + size_of p here list r } ≡ w =
     λ i. record { known = record { list = list; depth = depth_of here.behind (has_reference p here list i) }; end = sym start i + size_of p here list r } in
     let reads : ReadsRecord p (context_of p behind) bits at (Ok w) =
@@ -93,7 +97,9 @@ records_stand proper p within behind (list ∷ lists) bits before rest at are kn
     (subst (λ (n : ℕ). ReadsRecord p here (before ++ (first ++ (more ++ rest))) n (Ok w)) (sym start)
     (subst (λ (v : Whole). ReadsRecord p here (before ++ (first ++ (more ++ rest))) (length before) (Ok v)) whole stands))) in
     let end : w.end ≡ length (before ++ first) = omega (arith, start, length-append before first) in
-    let rest_stand = records_stand proper p within (w ∷ behind) lists bits (before ++ first) rest w.end are.1 (All-cons (λ (k : Known). IsList p k.list) w.known (knowns behind) are.0 known) (omega (arith, nodes)) (omega (arith, arcs, sum, sum')) later end in
+    let rest_stand =
+      records_stand proper p within (w ∷ behind) lists bits (before ++ first) rest w.end are.1
+        (All-cons (λ (k : Known). IsList p k.list) w.known (knowns behind) are.0 known) (omega (arith, nodes)) (omega (arith, arcs, sum, sum')) later end in
     let last : w.end + length more ≡ at + length (bits_after p (knowns behind) (list ∷ lists)) = omega (arith, size) in (
       omega (arith, nodes),
       reads,
@@ -106,7 +112,8 @@ pub wholes_lists : (p : Parameters) (behind : List Known) (at : ℕ) (lists : Li
 wholes_lists p behind at [] = refl
 wholes_lists p behind at (list ∷ lists) = ap (λ ls. list ∷ ls) (wholes_lists p (known_of p (context_after p behind) list ∷ behind) (next_whole p behind at list).end lists)
 
-pub wholes_ends : (p : Parameters) (behind : List Known) (at : ℕ) (lists : List (List ℕ)) → map (λ w. w.end) (wholes p behind at lists) ≡ ends_of at (map length (map bits_of_fields (records_of p behind lists)))
+pub wholes_ends : (p : Parameters) (behind : List Known) (at : ℕ) (lists : List (List ℕ))
+    → map (λ w. w.end) (wholes p behind at lists) ≡ ends_of at (map length (map bits_of_fields (records_of p behind lists)))
 wholes_ends p behind at [] = refl
 wholes_ends p behind at (list ∷ lists) =
     ap (λ es. (next_whole p behind at list).end ∷ es) (wholes_ends p (known_of p (context_after p behind) list ∷ behind) (next_whole p behind at list).end lists)
@@ -131,7 +138,8 @@ pub wholes_many : (p : Parameters) (behind : List Known) (at : ℕ) (lists : Lis
 wholes_many p behind at [] = refl
 wholes_many p behind at (list ∷ lists) = omega (arith, wholes_many p (known_of p (context_after p behind) list ∷ behind) (next_whole p behind at list).end lists)
 
-pub passed_arcs : (p : Parameters) (behind : List Whole) (known : List Known) (at : ℕ) (lists : List (List ℕ)) → arcs_read (passed behind (wholes p known at lists)) ≡ arcs_read behind + numbers_in lists
+pub passed_arcs : (p : Parameters) (behind : List Whole) (known : List Known) (at : ℕ) (lists : List (List ℕ))
+    → arcs_read (passed behind (wholes p known at lists)) ≡ arcs_read behind + numbers_in lists
 passed_arcs p behind known at [] = omega arith
 passed_arcs p behind known at (list ∷ lists) =
     let w : Whole = next_whole p known at list in

@@ -47,7 +47,8 @@ numbers_in lists = sum_by (λ list. length list) lists
 abbrev pub bits_after : Parameters → List Known → List (List ℕ) → List Bool
 bits_after p behind lists = flat_map (λ bits. bits) (map bits_of_fields (records_of p behind lists))
 
-records_short : (p : Parameters) (behind : List Known) (lists : List (List ℕ)) → IsWithinLimits p → AreLists p lists → length behind + length lists ≤ p.nodes → length (bits_after p behind lists) ≤ enough_bits (length lists) (numbers_in lists)
+records_short : (p : Parameters) (behind : List Known) (lists : List (List ℕ)) → IsWithinLimits p → AreLists p lists → length behind + length lists ≤ p.nodes
+    → length (bits_after p behind lists) ≤ enough_bits (length lists) (numbers_in lists)
 records_short p behind [] within are few = omega arith
 records_short p behind (list ∷ lists) within are few =
     omega (
