@@ -1,7 +1,8 @@
 -- A file that is looked for, and one of which no more is read.
-use Rattle.std.proofs.Common.{◌≡◌, ◌≢◌, inl, inr, ℕ, ◌<◌, Bool, true, false, List, [], length, refl, sym, ◌∙◌, ap, subst, option_and_then, Option, Some, None, Err}
+use Rattle.std.proofs.Common.{◌≡◌, ◌≢◌, inl, inr, ℕ, ◌<◌, Bool, true, false, List, [], nat_lt, length, refl, sym, ◌∙◌, ap, subst, option_and_then, Option, Some, None, Err}
 use Rattle.std.specs.Bool.{IsTrue}
 use Rattle.std.specs.FinMap as map
+use Rattle.std.proofs.lemmas.Bool.{cond-true, lt-ltb}
 use Rattle.wg_outside.specs.Outside.{Files, Counts}
 use Rattle.wg_outside.specs.declared.limits.TheConstants.{MOST_BYTES}
 use Rattle.wg_outside.specs.declared.whole.LoadError.{LoadError}
@@ -10,7 +11,7 @@ use Rattle.wg_source.specs.Held.{HeldBytes, IsHeldOf}
 use Rattle.wg_source.specs.Stepping.{Steps as StepsOn, HasCause as HasReadCause}
 use Rattle.wg_outcomes.specs.Answers.{Answers}
 use Rattle.wg_outcomes.specs.Causes.{HasCause}
-use Rattle.wg_outcomes.specs.Judged.{Judged, status_of, with_file}
+use Rattle.wg_outcomes.specs.Judged.{Judged, refused, status_of, with_file}
 use Rattle.wg_outcomes.specs.Names.{IsOfInput, held_by, no_outputs}
 use Rattle.wg_outcomes.specs.declared.ending.Ending.{Ending}
 use Rattle.wg_outcomes.specs.declared.status.Input.{Input}
@@ -20,9 +21,12 @@ use Rattle.wg_outcomes.proofs.Statuses.{absent_caused, failed_caused, own_caused
 use Rattle.wg_readings.specs.Finding.{IsOpenOn}
 use Rattle.wg_readings.specs.Loading.{Loads}
 use Rattle.wg_readings.specs.Pairing.{status_at}
-use Rattle.wg_readings.proofs.PassLemmas.{file_long}
 
 -- ---- an error of an input
+
+-- a file that is there, its length past the limit
+file_long : (i : Input) (bytes : List ℕ) → MOST_BYTES < length bytes → (next : List ℕ → Judged) → with_file i (Some bytes) next ≡ refused (OverLimit i)
+file_long i bytes many next = cond-true (nat_lt MOST_BYTES (length bytes)) (refused (OverLimit i)) (next bytes) (lt-ltb MOST_BYTES (length bytes) many)
 
 pub of_input : (i : Input) (e : LoadError) → IsOfInput i (status_at i e)
 of_input i load.Failed = inr (inl refl)

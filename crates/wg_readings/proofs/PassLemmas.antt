@@ -1,94 +1,75 @@
 -- A graph file that is read in pieces, in a validation.
-use Rattle.std.proofs.Common.{◌≡◌, ◌≢◌, inl, inr, ℕ, ◌<◌, Bool, true, false, List, nat_lt, length, refl, sym, ◌∙◌, ap, subst, Option, Some, None, Err}
+use Rattle.std.proofs.Common.{◌≡◌, inl, inr, ℕ, ◌<◌, Bool, true, false, List, nat_lt, length, refl, sym, ◌∙◌, ap, subst, Option, Some, None, Result, Ok, Err}
 use Rattle.std.specs.Bool.{IsTrue}
 use Rattle.std.specs.FinMap as map
 use Rattle.std.proofs.lemmas.Bool.{cond-true, lt-ltb}
 use Rattle.wg_outside.specs.declared.limits.TheConstants.{MOST_BYTES}
 use Rattle.wg_outside.specs.Outside.{Files, Counts}
+use Rattle.wg_outside.specs.declared.whole.LoadError.{LoadError}
+use Rattle.wg_outside.specs.declared.whole.LoadError.TheVariants as load
 use Rattle.wg_params.specs.Parameters.{Parameters, IsWithinLimits}
 use Rattle.wg_grammar.specs.declared.fault.ArchiveFault.{ArchiveFault}
 use Rattle.wg_grammar.specs.declared.fault.ArchiveFault.TheVariants as archive
 use Rattle.wg_grammar.specs.Archive.{Accepted}
-use Rattle.wg_stream.specs.declared.first.First.{First}
-use Rattle.wg_stream.specs.declared.first.First.TheVariants as first
-use Rattle.wg_stream.specs.FirstError.{of_first, OfGraph, OfOutside}
-use Rattle.wg_source.specs.Held.{HeldBytes}
 use Rattle.wg_grammar.specs.Record.{Whole}
-use Rattle.wg_stream.specs.declared.state.State.{State}
-use Rattle.wg_stream.specs.declared.state.State.TheVariants.{Open, Closed}
-use Rattle.wg_stream.specs.declared.stream_error.StreamError.TheVariants as errors
-use Rattle.wg_stream.specs.Reading.{Reading, AgreesIn, IsInStep, IsJudged}
+use Rattle.wg_source.specs.Held.{HeldBytes, IsHeldOf}
 use Rattle.wg_source.specs.Stepping.{HasCause as HasReadCause}
+use Rattle.wg_stream.specs.declared.error.PagesError.{PagesError}
+use Rattle.wg_stream.specs.declared.error.PagesError.TheVariants as pages
+use Rattle.wg_stream.specs.declared.first.First.{First}
+use Rattle.wg_stream.specs.declared.state.State.{State}
+use Rattle.wg_stream.specs.declared.state.State.TheVariants.{Open}
+use Rattle.wg_stream.specs.Errors.{OfRefusal}
+use Rattle.wg_stream.specs.FirstError.{Says}
+use Rattle.wg_stream.specs.Reading.{Reading, AgreesIn, Goes, IsInStep, IsJudged}
+use Rattle.wg_stream.proofs.ErrorLemmas.{no_err}
 use Rattle.wg_outcomes.specs.Answers.{Answers}
 use Rattle.wg_outcomes.specs.Causes.{HasCause}
 use Rattle.wg_outcomes.specs.Judged.{Judged, refused, status_of, with_file, with_graph}
 use Rattle.wg_outcomes.specs.Names.{no_outputs}
-use Rattle.wg_readings.specs.Passes.{Advances, IsGraphFile, ending_at, first_in, graph_then}
 use Rattle.wg_outcomes.specs.Promised.{IsStopAt}
 use Rattle.wg_outcomes.specs.Readings.{Readings}
 use Rattle.wg_outcomes.specs.declared.ending.Ending.{Ending}
 use Rattle.wg_outcomes.specs.declared.status.Input.{Input}
 use Rattle.wg_outcomes.specs.declared.status.Input.TheVariants.{Graph}
-use Rattle.wg_outcomes.specs.declared.status.Status.TheVariants.{BadArchive, OverLimit}
+use Rattle.wg_outcomes.specs.declared.status.Status.TheVariants.{BadArchive, Done, Memory, OverLimit}
 pub use Rattle.wg_outcomes.proofs.FileLemmas.{file_goes}
 use Rattle.wg_outcomes.proofs.FileLemmas.{held_goes}
+use Rattle.wg_outcomes.proofs.Statuses.{own_caused}
+use Rattle.wg_readings.specs.Passes.{Advances, FollowsFile, IsFound, IsGraphFile, ending_at, graph_then}
+use Rattle.wg_readings.proofs.FindingLemmas.{caused_at, error_steps, of_input}
 use Rattle.wg_readings.proofs.ReadingsLemmas.{goes_on, is_refused}
-use Rattle.wg_outcomes.proofs.Statuses.{absent_caused, failed_caused, own_caused}
-
-pub first_again : (f : First) → first_in (of_first f) ≡ f
-first_again (first.Fault f) = refl
-first_again _ = refl
 
 -- ---- what an error tells, whatever the file is
+of_graph : (n : ℕ) (f : ArchiveFault) (first : First) → Says (pages.Fault f) first → IsStopAt Graph n (ending_at n (pages.Fault f))
+of_graph n (archive.Record f) first is = inr (inr (archive.Record f, refl, refl, refl))
+of_graph n (archive.Tail offset) first is = inr (inr (archive.Tail offset, refl, refl, refl))
+of_graph n (archive.ArcsShort total) first is = inr (inr (archive.ArcsShort total, refl, refl, refl))
+of_graph n (archive.Offsets w) first is = absurd is
+of_graph n (archive.Length page found stored) first is = absurd is
 
-pub only_at : (n : ℕ) (f : First) → IsStopAt Graph n (ending_at n f)
-only_at n (first.Fault f) = inr (inr (archive.Record f, refl, refl, refl))
-only_at n (first.Tail offset) = inr (inr (archive.Tail offset, refl, refl, refl))
-only_at n (first.ArcsShort total) = inr (inr (archive.ArcsShort total, refl, refl, refl))
-only_at n first.Failed = inl (inr (inl refl))
-only_at n first.Absent = inl (inr (inr (inl refl)))
-only_at n first.TooLong = inl (inr (inr (inr refl)))
-only_at n first.Memory = inl (inl refl)
+only_at : (n : ℕ) (x : PagesError LoadError) (first : First) → Says x first → IsStopAt Graph n (ending_at n x)
+only_at n (pages.Fault f) first is = of_graph n f first is
+only_at n pages.Memory first is = inl (inl refl)
+only_at n (pages.Refused e) first is = inl (of_input Graph e)
 
-module _ (told : Bool) (name : List ℕ) (files : Files) (old new : List ℕ → Counts) (h : HeldBytes) (names : Input → Option (List ℕ)) (named : names Graph ≡ Some name) where
-  pub cause_at : (n : ℕ) (f : First) → OfOutside f (HasReadCause told name files old new h) → HasCause names no_outputs old new 0 0 (ending_at n f).status
-  cause_at n first.Failed cause = failed_caused _ _ _ _ _ _ Graph name named (cause.failed refl)
-  cause_at n first.Absent cause = absent_caused _ _ _ _ _ _ Graph name named (cause.absent refl)
-  cause_at n f cause = own_caused _ _ _ _ _ _ (ending_at n f).status tt
+cause_at : (told : Bool) (name : List ℕ) (files : Files) (old new : List ℕ → Counts) (h : HeldBytes) (n : ℕ) (x : PagesError LoadError) → OfRefusal x (HasReadCause told name files old new h)
+    → (names : Input → Option (List ℕ)) → names Graph ≡ Some name → HasCause names no_outputs old new 0 0 (ending_at n x).status
+cause_at told name files old new h n (pages.Fault f) cause names named = own_caused _ _ _ _ _ _ (BadArchive f) tt
+cause_at told name files old new h n pages.Memory cause names named = own_caused _ _ _ _ _ _ Memory tt
+cause_at told name files old new h n (pages.Refused e) cause names named = caused_at told name files old new h Graph e cause names named
 
 -- ---- what it tells of a file that is told
-
--- a file that is there, its length past the limit
-pub file_long : (i : Input) (bytes : List ℕ) → MOST_BYTES < length bytes → (next : List ℕ → Judged) → with_file i (Some bytes) next ≡ refused (OverLimit i)
-file_long i bytes many next = cond-true (nat_lt MOST_BYTES (length bytes)) (refused (OverLimit i)) (next bytes) (lt-ltb MOST_BYTES (length bytes) many)
-
--- what is known of the first error by the file that is there
-pub record IsErrorOf (p : Parameters) (file : List ℕ) (f : First) : Type 0 where
-  pub there : f ≢ first.Absent
-  pub long : f ≡ first.TooLong → MOST_BYTES < length file
-  pub fault : OfGraph f (λ x. IsJudged file p (Err x))
-
 module _ (r : Readings) (p : Parameters) (limits : IsWithinLimits p) where
   pub graph_goes : (held : Option (List ℕ)) (a : Accepted) → IsGraphFile held p a → (next : Accepted → Judged) → graph_then r p held next ≡ next a
   graph_goes held a h next = held_goes Graph held h.file h.is h.judged.short (λ bytes. with_graph r p bytes next) ∙ goes_on r p limits h.file a.graph a.places h.judged.reads next
 
-  fault_refuses : (file : List ℕ) (x : ArchiveFault) → IsJudged file p (Err x) → (next : Accepted → Judged) → Answers (graph_then r p (Some file) next) (BadArchive x)
-  fault_refuses file x h next =
-      inl (sym (ap status_of (file_goes Graph file h.short (λ bytes. with_graph r p bytes next) ∙ is_refused r p limits file x h.reads next)))
-
-  by_file : (n : ℕ) (file : List ℕ) (f : First) → IsErrorOf p file f → (next : Accepted → Judged) → Answers (graph_then r p (Some file) next) (ending_at n f).status
-  by_file n file (first.Fault x) h next = fault_refuses file (archive.Record x) h.fault next
-  by_file n file (first.Tail offset) h next = fault_refuses file (archive.Tail offset) h.fault next
-  by_file n file (first.ArcsShort total) h next = fault_refuses file (archive.ArcsShort total) h.fault next
-  by_file n file first.Failed h next = inr tt
-  by_file n file first.Memory h next = inr tt
-  by_file n file first.Absent h next = absurd (h.there refl)
-  by_file n file first.TooLong h next = inl (sym (ap status_of (file_long Graph file (h.long refl) (λ bytes. with_graph r p bytes next))))
-
-  pub error_steps : (n : ℕ) (held : Option (List ℕ)) (f : First) → (held ≡ None → f ≡ first.Absent) → ((file : List ℕ) → held ≡ Some file → IsErrorOf p file f)
-      → (next : Accepted → Judged) → Answers (graph_then r p held next) (ending_at n f).status
-  error_steps n None f none some next = inl (ap (λ (x : First). (ending_at n x).status) (none refl))
-  error_steps n (Some file) f none some next = by_file n file f (some file refl) next
+  fault_refuses : (held : Option (List ℕ)) (f : ArchiveFault) → (held ≡ None → ◌≡◌ {A = PagesError LoadError} (pages.Fault f) (pages.Refused load.Absent)) → ((file : List ℕ) → held ≡ Some file → IsJudged file p (Err f))
+      → (next : Accepted → Judged) → Answers (graph_then r p held next) (BadArchive f)
+  fault_refuses None f none some next = absurd (let no = none refl in cc)
+  fault_refuses (Some file) f none some next =
+      let h = some file refl in
+      inl (sym (ap status_of (file_goes Graph file h.short (λ bytes. with_graph r p bytes next) ∙ is_refused r p limits file f h.reads next)))
 
 -- ---- a step of a reading
 
@@ -98,27 +79,51 @@ found_after None false none found = absurd (none refl refl)
 found_after None true none found = found refl
 found_after (Some file) looked none found = (file, refl)
 
-absent_only : (f : First) → of_first f ≡ errors.Absent → f ≡ first.Absent
-absent_only first.Absent is = refl
-absent_only f is = absurd (cc is)
+absent_after : (o : Option (List ℕ)) (looked : Bool) (x : PagesError LoadError) → (o ≡ None → looked ≡ false → ◌≡◌ {A = Result (Unit {0}) (PagesError LoadError)} (Err x) (Err (pages.Refused load.Absent)))
+    → (looked ≡ true → (file : List ℕ) × (o ≡ Some file)) → o ≡ None → x ≡ pages.Refused load.Absent
+absent_after o false x none found is = let e : ◌≡◌ {A = Result (Unit {0}) (PagesError LoadError)} (Err x) (Err (pages.Refused load.Absent)) = none is refl in cc
+absent_after o true x none found is = let k = found refl in absurd (let no : None ≡ Some k.0 = sym is ∙ k.1 in cc)
 
-pub absent_after : (o : Option (List ℕ)) (looked : Bool) (f : First) → (o ≡ None → looked ≡ false → of_first f ≡ errors.Absent) → (looked ≡ true → (file : List ℕ) × (o ≡ Some file)) → o ≡ None → f ≡ first.Absent
-absent_after o false f none found is = absent_only f (none is refl)
-absent_after o true f none found is = let k = found refl in absurd (let no : None ≡ Some k.0 = sym is ∙ k.1 in cc)
+module _ (told : Bool) (files files' : Files) (counts counts' : List ℕ → Counts) (p : Parameters) (a b : Reading) (going : a.state ≡ Open) (same : a.pages.params ≡ p) where
+  module _ (t : IsTrue told) (limits : IsWithinLimits p) (found : IsFound files a) (follows : FollowsFile files a) (r : Readings) where
+    refuses : (x : PagesError LoadError) → Goes told files files' counts counts' a b (Err x) → (next : Accepted → Judged) → Answers (graph_then r p (map.get files a.name) next) (ending_at p.arcs x).status
+    refuses pages.Memory g next = inr tt
+    refuses (pages.Fault f) g next =
+        fault_refuses r p limits (map.get files a.name) f (absent_after _ a.held.looked (pages.Fault f) (g.absent t) found)
+        (λ file is. let k = follows file is in subst (λ (q : Parameters). IsJudged file q (Err f)) same (g.fault t file is k.0 k.1)) next
+    refuses (pages.Refused e) g next =
+        error_steps Graph e (map.get files a.name)
+        (λ none. let is = absent_after _ a.held.looked (pages.Refused e) (g.absent t) found none in cc)
+        (λ file is.
+        let k = follows file is in
+        let read : AgreesIn Open file a k.0 = subst (λ (s : State). AgreesIn s file a k.0) going k.1 in
+        (g.cause.there t file is, g.cause.long t file is read.held)) (λ bytes. with_graph r p bytes next)
 
--- what a reading that was closed by an error knows of its file
-pub error_of : (told : Bool) (p : Parameters) (files : Files) (c1 c2 : List ℕ → Counts) (a b : Reading) (f : First) (file : List ℕ) (whole : List Whole) → IsTrue told
-    → a.state ≡ Open → b.state ≡ Closed f → b.pages.params ≡ p → OfOutside f (HasReadCause told a.name files c1 c2 a.held) → map.get files a.name ≡ Some file
-    → IsInStep file a whole → IsInStep file b whole → IsErrorOf p file f
-error_of told p files c1 c2 a b f file whole t going closed same cause is before after =
-    let read : AgreesIn Open file a whole = subst (λ (x : State). AgreesIn x file a whole) going before in
-    record {
-      there = λ e. (subst (λ (x : First). OfOutside x (HasReadCause told a.name files c1 c2 a.held)) e cause).there t file is refl;
-      long = λ e. (subst (λ (x : First). OfOutside x (HasReadCause told a.name files c1 c2 a.held)) e cause).long t file is read.held refl;
-      fault = subst (λ (q : Parameters). OfGraph f (λ x. IsJudged file q (Err x))) same (subst (λ (x : State). AgreesIn x file b whole) closed after);
-    }
+  -- an error ends the job
+  pub stops : (x : PagesError LoadError) (e : Ending) → e ≡ ending_at p.arcs x → Goes told files files' counts counts' a b (Err x) → Advances {B = Unit {0}} told files files' counts counts' p a b (Err e)
+  stops x e is g = subst (λ (y : Ending). Advances {B = Unit {0}} told files files' counts counts' p a b (Err y)) (sym is)
+      (record {
+        params = g.params;
+        name = g.name;
+        onward = g.onward;
+        same = g.same;
+        later = g.later;
+        only = only_at p.arcs x g.closed.0 g.closed.1;
+        causes = cause_at told a.name files counts counts' a.held p.arcs x g.cause;
+        there = λ t held is found. tt;
+        refused = λ t limits held is found follows r.
+            refuses t limits (subst (λ (f : Files). IsFound f a) (sym is) found) (subst (λ (f : Files). FollowsFile f a) (sym is) follows) r x g;
+      })
 
--- the same of an equal ending
-pub advances_at : {B : Type 0} (told : Bool) (files files' : Files) (counts counts' : List ℕ → Counts) (p : Parameters) (a b : Reading) (x e : Ending) → x ≡ e
-    → Advances {B = B} told files files' counts counts' p a b (Err e) → Advances {B = B} told files files' counts counts' p a b (Err x)
-advances_at {B} told files files' counts counts' p a b x e is h = subst (λ (y : Ending). Advances {B = B} told files files' counts counts' p a b (Err y)) (sym is) h
+  pub advances : Goes told files files' counts counts' a b (Ok tt) → Advances {B = Unit {0}} told files files' counts counts' p a b (Ok tt)
+  advances g = record {
+    params = g.params;
+    name = g.name;
+    onward = g.onward;
+    same = g.same;
+    later = g.later;
+    only = tt;
+    causes = λ names named. own_caused _ _ _ _ _ _ Done tt;
+    there = λ t held is found. found_after _ a.held.looked (λ none new. no_err (g.absent t (ap (λ (f : Files). map.get f a.name) is ∙ none) new)) found;
+    refused = λ t limits held is found follows r. tt;
+  }

@@ -3,7 +3,6 @@ use Rattle.std.specs.Prelude.{◌≡◌, ℕ, ◌+◌, Bool, true, false, List, 
 use Rattle.std.specs.FinMap as map
 use Rattle.wg_outside.specs.Outside.{Files, Counts}
 use Rattle.wg_outside.specs.declared.whole.LoadError.{LoadError}
-use Rattle.wg_outside.specs.declared.whole.LoadError.TheVariants as load
 use Rattle.wg_bits.specs.Bits.{bits_of}
 use Rattle.wg_params.specs.Parameters.{Parameters, IsWithinLimits}
 use Rattle.wg_grammar.specs.declared.fault.ArchiveFault.TheVariants as archive
@@ -21,20 +20,13 @@ use Rattle.wg_outcomes.specs.Judged.{Judged, offsets_then, with_lengths}
 use Rattle.wg_outcomes.specs.Names.{no_outputs}
 use Rattle.wg_outcomes.specs.Promised.{IsStopAt}
 use Rattle.wg_readings.specs.Passes.{graph_then}
+pub use Rattle.wg_readings.specs.Passes.{status_at}
 use Rattle.wg_outcomes.specs.Readings.{Readings}
 use Rattle.wg_outcomes.specs.declared.ending.Ending.{Ending}
 use Rattle.wg_readings.specs.declared.pairing.Pairing.{Pairing}
 use Rattle.wg_outcomes.specs.declared.status.Input.{Input}
 use Rattle.wg_outcomes.specs.declared.status.Input.TheVariants as input
-use Rattle.wg_outcomes.specs.declared.status.Status.{Status}
-use Rattle.wg_outcomes.specs.declared.status.Status.TheVariants.{Memory, ReadFault, Missing, BadArchive, OverLimit}
-
--- how a job ends at an error of an input
-abbrev pub status_at : Input → LoadError → Status
-status_at i load.Absent = Missing i
-status_at i load.Failed = ReadFault i
-status_at i load.TooLong = OverLimit i
-status_at i load.Memory = Memory
+use Rattle.wg_outcomes.specs.declared.status.Status.TheVariants.{Memory, BadArchive}
 
 -- how a job ends whose offsets file is not read on: at a word, if the properties promise so many arcs, or at its input
 abbrev pub word_ending : ℕ → WordError LoadError → Ending

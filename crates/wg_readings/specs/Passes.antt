@@ -2,16 +2,15 @@
 use Rattle.std.specs.Prelude.{◌≡◌, ℕ, ◌≤◌, ◌++◌, Bool, true, List, [], Option, Some, Result, Ok, Err, IsTrue, OnOk, IfErr}
 use Rattle.std.specs.FinMap as map
 use Rattle.wg_outside.specs.Outside.{Files, Counts, NonDecreasing}
+use Rattle.wg_outside.specs.declared.whole.LoadError.{LoadError}
+use Rattle.wg_outside.specs.declared.whole.LoadError.TheVariants as load
 use Rattle.wg_outside.specs.declared.suffixes.TheConstants.{GRAPH}
 use Rattle.wg_params.specs.Parameters.{Parameters, IsWithinLimits}
-use Rattle.wg_grammar.specs.declared.fault.ArchiveFault.TheVariants as archive
 use Rattle.wg_grammar.specs.Archive.{Accepted, lists_of, places_of}
 use Rattle.wg_grammar.specs.Record.{Whole}
-use Rattle.wg_stream.specs.declared.first.First.{First}
-use Rattle.wg_stream.specs.declared.first.First.TheVariants as first
+use Rattle.wg_stream.specs.declared.error.PagesError.{PagesError}
+use Rattle.wg_stream.specs.declared.error.PagesError.TheVariants as pages
 use Rattle.wg_stream.specs.declared.state.State.TheVariants.{Open}
-use Rattle.wg_stream.specs.declared.stream_error.StreamError.{StreamError}
-use Rattle.wg_stream.specs.declared.stream_error.StreamError.TheVariants as errors
 use Rattle.wg_stream.specs.Reading.{Reading, IsInStep, IsJudged}
 use Rattle.wg_outcomes.specs.Answers.{Steps, status_in}
 use Rattle.wg_outcomes.specs.Causes.{HasCause}
@@ -22,6 +21,7 @@ use Rattle.wg_outcomes.specs.Readings.{Readings}
 use Rattle.wg_outcomes.specs.declared.ending.Ending.{Ending}
 use Rattle.wg_outcomes.specs.declared.status.Input.{Input}
 use Rattle.wg_outcomes.specs.declared.status.Input.TheVariants as input
+use Rattle.wg_outcomes.specs.declared.status.Status.{Status}
 use Rattle.wg_outcomes.specs.declared.status.Status.TheVariants.{Memory, ReadFault, Missing, BadArchive, OverLimit}
 
 -- goes on with the graph of what the graph file holds
@@ -38,27 +38,18 @@ pub record IsGraphFile (held : Option (List ℕ)) (p : Parameters) (a : Accepted
 abbrev pub accepted_of : List Whole → Accepted
 accepted_of behind = record { graph = lists_of behind; places = places_of behind }
 
--- the first error of a reading, which each later one names
-abbrev pub first_in : StreamError → First
-first_in (errors.Fault f) = first.Fault f
-first_in (errors.Tail offset) = first.Tail offset
-first_in (errors.ArcsShort total) = first.ArcsShort total
-first_in errors.Failed = first.Failed
-first_in errors.Absent = first.Absent
-first_in errors.TooLong = first.TooLong
-first_in errors.Memory = first.Memory
-first_in (errors.Closed f) = f
+-- how a job ends at an error of an input
+abbrev pub status_at : Input → LoadError → Status
+status_at i load.Absent = Missing i
+status_at i load.Failed = ReadFault i
+status_at i load.TooLong = OverLimit i
+status_at i load.Memory = Memory
 
--- how a job ends at the first error of its graph file, if the properties promise so many arcs
-abbrev pub ending_at : ℕ → First → Ending
-ending_at promised (first.Fault f) = record { status = BadArchive (archive.Record f); promised = promised }
-ending_at promised (first.Tail offset) = record { status = BadArchive (archive.Tail offset); promised = promised }
-ending_at promised (first.ArcsShort total) =
-    record { status = BadArchive (archive.ArcsShort total); promised = promised }
-ending_at promised first.Failed = record { status = ReadFault input.Graph; promised = 0 }
-ending_at promised first.Absent = record { status = Missing input.Graph; promised = 0 }
-ending_at promised first.TooLong = record { status = OverLimit input.Graph; promised = 0 }
-ending_at promised first.Memory = record { status = Memory; promised = 0 }
+-- how a job ends whose graph file is not read on, if the properties promise so many arcs
+abbrev pub ending_at : ℕ → PagesError LoadError → Ending
+ending_at promised (pages.Fault f) = record { status = BadArchive f; promised = promised }
+ending_at promised pages.Memory = record { status = Memory; promised = 0 }
+ending_at promised (pages.Refused e) = record { status = status_at input.Graph e; promised = 0 }
 
 -- a reading of the graph file of an archive, before its first page
 pub record IsFresh (base : List ℕ) (p : Parameters) (r : Reading) : Type 0 where

@@ -1,5 +1,7 @@
 -- Records of pages, one after the other.
-use Rattle.std.proofs.Common.{◌≡◌, ℕ, zero, suc, ◌+◌, ◌<◌, Bool, List, [], ◌∷◌, ◌++◌, length, take, sum_by, refl, sym, ◌∙◌, ap, subst, arith, add_comm, Ok, Err, map}
+use Rattle.std.proofs.Common.{◌≡◌, ℕ, zero, suc, ◌+◌, ◌<◌, Bool, List, [], ◌∷◌, ◌++◌, length, take, sum_by, refl, sym, ◌∙◌, ap, subst, arith, add_comm, Ok, Err, map, inl, inr}
+use Rattle.std.specs.Prelude.{◌⊎◌, ◌≤◌, All, IfSome, Option, Some, None, option_to_list}
+use Rattle.std.proofs.lemmas.List.Elements.{All-cons, All-pop}
 use Rattle.std.proofs.lemmas.List.{reverse-append, length-reverse, length-map}
 use Rattle.std.proofs.lemmas.List.Sums.{sum_by-cons, sum_by-append}
 use Rattle.wg_params.specs.Parameters.{Parameters}
@@ -10,7 +12,10 @@ use Rattle.wg_grammar.specs.Context.{Known, Context}
 use Rattle.wg_grammar.specs.Record.{Whole, ReadsRecord}
 use Rattle.wg_grammar.specs.Archive.{Pages, context_of, lists_of, places_of, ReadsGraph}
 use Rattle.wg_decoder.specs.Answer.{context_at}
-use Rattle.wg_stream.specs.Prefix.{PagesRead, RecordsStand, IsOneMore}
+use Rattle.wg_decoder.specs.Remembered.{known_of}
+use Rattle.wg_decoder.specs.Spare.{SpareLengths, NoneLonger}
+use Rattle.wg_decoder.specs.declared.decoded.Decoded.{Decoded}
+use Rattle.wg_stream.specs.Prefix.{PagesRead, AreSound, RecordsStand, IsOneMore}
 
 -- a record more after no record
 first_page : (p : Parameters) (bits : List Bool) (first last : List Whole) (at mid : ℕ) (w : Whole) → last ≡ first → mid ≡ at
@@ -89,3 +94,25 @@ module _ (p : Parameters) (bits : List Bool) where
 -- the same end by another name
 pub one_more_to : (bits : List Bool) (r : PagesRead) (a b : ℕ) (behind : List Whole) → a ≡ b → IsOneMore bits r a behind → IsOneMore bits r b behind
 one_more_to bits r a b behind same h = subst (λ (n : ℕ). IsOneMore bits r n behind) same h
+
+-- ---- the lists that are held stay short
+-- what is kept with one list more, whether or not a list has left
+pub kept_short : (most : ℕ) (kept new : List Known) (k : Known) (furthest : Option Decoded) → new ++ map known_of (option_to_list furthest) ≡ k ∷ kept → length k.list ≤ most
+    → All (λ (j : Known). length j.list ≤ most) kept → All (λ (j : Known). length j.list ≤ most) new × IfSome furthest (λ d. length d.list ≤ most)
+kept_short most kept new k None is le all = ((All-pop (λ (j : Known). length j.list ≤ most) (k ∷ kept) new None (sym is) (All-cons (λ (j : Known). length j.list ≤ most) k kept le all)).0, tt)
+kept_short most kept new k (Some d) is le all = All-pop (λ (j : Known). length j.list ≤ most) (k ∷ kept) new (Some (known_of d)) (sym is) (All-cons (λ (j : Known). length j.list ≤ most) k kept le all)
+
+-- a list is taken for later ones
+pub taken_short : (most n : ℕ) (s t : SpareLengths) → n ≤ most → NoneLonger most s → (t ≡ s) ⊎ (t ≡ record s { furthest = n }) → NoneLonger most t
+taken_short most n s t le h (inl is) = subst (NoneLonger most) (sym is) h
+taken_short most n s t le h (inr is) = subst (NoneLonger most) (sym is) (record { copied = h.copied; inside = h.inside; united = h.united; furthest = le })
+
+pub sound_spared : (r : PagesRead) (s : SpareLengths) → AreSound r → NoneLonger r.params.nodes s → AreSound (record r { spares = s })
+sound_spared r s h short = record {
+  few = h.few;
+  within = h.within;
+  serves = h.serves;
+  ascends = h.ascends;
+  below = h.below;
+  held = record { near = h.held.near; short = record { kept = h.held.short.kept; spares = short; past = h.held.short.past } };
+}

@@ -1,5 +1,11 @@
 -- A reading that goes on.
-use Rattle.std.proofs.Common.{◌≡◌, ◌∙◌, ℕ, ◌+◌, ◌/◌, ◌≤◌, List, Bool, Result, Err, length, refl, sym, ap, subst, arith}
+use Rattle.std.proofs.Common.{◌≡◌, ◌∙◌, ℕ, ◌+◌, ◌/◌, ◌≤◌, List, ◌∷◌, Bool, true, false, Some, None, Result, Ok, Err, length, refl, sym, ap, subst, arith}
+use Rattle.std.specs.Bool.{IsTrue}
+use Rattle.std.specs.FinMap as map
+use Rattle.wg_outside.specs.Outside.{Files, Counts}
+use Rattle.wg_outside.specs.declared.limits.TheConstants.{MOST_BYTES}
+use Rattle.wg_params.specs.Parameters.{Parameters}
+use Rattle.wg_grammar.specs.Archive.{ReadsGraph, lists_of, places_of}
 use Rattle.wg_bits.specs.Bits.{bits_of}
 use Rattle.wg_grammar.specs.Record.{Whole}
 use Rattle.wg_stream.specs.declared.state.State.{State}
@@ -8,12 +14,20 @@ use Rattle.wg_stream.specs.declared.first.First.{First}
 use Rattle.wg_stream.specs.declared.first.First.TheVariants as first
 use Rattle.wg_stream.specs.declared.stream_error.StreamError.{StreamError}
 use Rattle.wg_stream.specs.declared.stream_error.StreamError.TheVariants as errors
-use Rattle.wg_stream.specs.FirstError.{of_first, OfOutside}
+use Rattle.wg_stream.specs.declared.error.PagesError.{PagesError}
+use Rattle.wg_stream.specs.declared.error.PagesError.TheVariants.{Refused}
+use Rattle.wg_stream.specs.Errors.{OfFault, OfRefusal}
+use Rattle.wg_stream.specs.FirstError.{of_first, OfOutside, Says}
 use Rattle.wg_outside.specs.declared.whole.LoadError.{LoadError}
+use Rattle.wg_outside.specs.declared.whole.LoadError.TheVariants as load
 use Rattle.wg_source.specs.declared.stretch.TheConstants.{MOST_HELD}
 use Rattle.wg_source.specs.Held.{HeldBytes, IsHeldOf, IsSmall}
-use Rattle.wg_stream.specs.Prefix.{AreBehind}
-use Rattle.wg_stream.specs.Reading.{Reading, AgreesIn, IsInStep, Stands}
+use Rattle.wg_source.specs.Stepping.{Steps, HasCause}
+use Rattle.wg_source.specs.StepLaws.{later_cause, still_there, two_steps}
+use Rattle.wg_stream.specs.Prefix.{PagesRead, AreBehind, HoldsFew, IsOneMore}
+use Rattle.wg_stream.specs.Reading.{Reading, AgreesIn, Goes, IsInStep, IsJudged, IsSteady, Stands, StaysInStep}
+use Rattle.wg_stream.proofs.ErrorLemmas.{fault_weaker, refusal_weaker}
+use Rattle.wg_stream.proofs.FirstErrorLemmas.{says_graph, says_one, says_outside}
 
 -- what an open reading that is in step knows of the file: what it holds, and the records up to the next bit and up to
 -- the end of the last
@@ -69,12 +83,106 @@ told_as first.Absent = refl
 told_as first.TooLong = refl
 told_as first.Memory = refl
 
-pub told_cause : (e f : First) (r : StreamError) (P : LoadError → Type 0) → r ≡ of_first e → OfOutside e P → ◌≡◌ {A = Result Bool StreamError} (Err r) (Err (of_first f)) → OfOutside f P
-told_cause e f r P is h same =
-    let one : r ≡ of_first f = cc same in
-    subst (λ (x : First). OfOutside x P) (sym (told_as e) ∙ ap told_first (sym is ∙ one) ∙ told_as f) h
+-- it is reported as the error that closed the reading
+module _ (told : Bool) (files files' : Files) (counts counts' : List ℕ → Counts) (old new : Reading) (x : PagesError LoadError) (g : Goes told files files' counts counts' old new (Err x)) (e : First) (says : Says x e) (r : StreamError) (is : r ≡ of_first e) where
+  pub told_err : (f : First) × (r ≡ of_first f) × (new.state ≡ Closed f)
+  told_err = (g.closed.0, is ∙ ap of_first (says_one x e g.closed.0 says g.closed.1), g.closed.2)
 
-pub told_absent : (e : First) (r : StreamError) → r ≡ of_first e → ◌≡◌ {A = Result Bool First} (Err e) (Err first.Absent) → ◌≡◌ {A = Result Bool StreamError} (Err r) (Err errors.Absent)
-told_absent e r is same =
-    let one : e ≡ first.Absent = cc same in
-    ap (λ (x : StreamError). Err x) (is ∙ ap of_first one)
+  pub told_absent : IsTrue told → map.get files old.name ≡ None → old.held.looked ≡ false → ◌≡◌ {A = Result Bool StreamError} (Err r) (Err errors.Absent)
+  told_absent t none fresh =
+      let one : x ≡ Refused load.Absent = (let same = g.absent t none fresh in cc) in
+      ap (λ (y : StreamError). Err y) (is ∙ ap of_first (subst (λ (y : PagesError LoadError). Says y e) one says))
+
+  pub told_cause : (f : First) → ◌≡◌ {A = Result Bool StreamError} (Err r) (Err (of_first f)) → OfOutside f (HasCause told old.name files counts counts' old.held)
+  told_cause f same =
+      let one : r ≡ of_first f = cc same in
+      subst (λ (y : First). OfOutside y (HasCause told old.name files counts counts' old.held)) (sym (told_as e) ∙ ap told_first (sym is ∙ one) ∙ told_as f)
+          (says_outside x e (HasCause told old.name files counts counts' old.held) says g.cause)
+
+  pub told_in_step : IsTrue told → (file : List ℕ) → map.get files old.name ≡ Some file → (whole : List Whole) → IsInStep file old whole → IsInStep file new whole
+  told_in_step t file there whole s =
+      subst (λ (y : State). AgreesIn y file new whole) (sym g.closed.2)
+      (says_graph x g.closed.0 (λ f. IsJudged file new.pages.params (Err f)) g.closed.1
+      (subst (λ (p : Parameters). OfFault x (λ f. IsJudged file p (Err f))) (sym g.params) (g.fault t file there whole s)))
+
+-- ---- a step of an open reading: a look at the file, and then a record of it or its end
+module _ (told : Bool) (files files1 files2 : Files) (counts counts1 counts2 : List ℕ → Counts) (r : Reading) (v : IsSteady r) (going : r.state ≡ Open) (h1 h2 : HeldBytes) (looked : h1 ≡ record r.held { looked = true })
+    (look : Steps told r.name files files1 counts counts1 r.held h1) (absent : IsTrue told → map.get files r.name ≡ None → r.held.looked ≡ false → ⊥)
+    (step : Steps told r.name files1 files2 counts1 counts2 h1 h2) (pages : PagesRead) (params : pages.params ≡ r.pages.params) (few : HoldsFew pages) (at : ℕ) (state : State) where
+  abbrev after : Reading
+  after = record { pages = pages; name = r.name; at = at; held = h2; state = state }
+
+  both : Steps told r.name files files2 counts counts2 r.held h2
+  both = two_steps _ _ _ _ _ _ _ _ _ _ _ _ refl look step
+
+  -- a file that the reading is in step with, after the look
+  record IsHere (file : List ℕ) (whole : List Whole) : Type 0 where
+    there : map.get files1 r.name ≡ Some file
+    before : IsHeldOf file r.held
+    held : IsHeldOf file h1
+    short : length file ≤ MOST_BYTES
+    next : AreBehind (bits_of file) r.pages h1.at whole
+    last : AreBehind (bits_of file) r.pages r.at whole
+
+  here : IsTrue told → (file : List ℕ) → map.get files r.name ≡ Some file → (whole : List Whole) → IsInStep file r whole → IsHere file whole
+  here t file is whole s =
+      let a = reads_of file r whole going v.stands s in
+      let held = look.in_step t file is a.0 in
+      record {
+        there = still_there _ _ _ _ _ _ _ _ _ file refl look is;
+        before = a.0;
+        held = held;
+        short = held.short (ap (λ (h : HeldBytes). h.looked) looked);
+        next = subst (λ (n : ℕ). AreBehind (bits_of file) r.pages n whole) (sym (ap (λ (h : HeldBytes). h.at) looked)) a.1;
+        last = a.2;
+      }
+
+  pub goes_wrong : (e : PagesError LoadError) → r.at ≡ at → (f : First) × Says e f × (state ≡ Closed f) → OfRefusal e (HasCause told r.name files1 counts1 counts2 h1)
+      → (IsTrue told → (file : List ℕ) → map.get files1 r.name ≡ Some file → IsHeldOf file h1 → (whole : List Whole) → AreBehind (bits_of file) r.pages h1.at whole
+      → OfFault e (λ f. ReadsGraph r.pages.params (bits_of file) (Err f))) → Goes told files files2 counts counts2 r after (Err e)
+  goes_wrong e same closed cause fault = record {
+    params = params;
+    name = refl;
+    onward = omega (arith, same);
+    same = both.same;
+    later = both.later;
+    few = few;
+    small = (both.small v.small).few;
+    looked = tt;
+    closed = closed;
+    fault = λ t file is whole s.
+        let k = here t file is whole s in
+        fault_weaker e _ _ (λ f x. record { short = k.short; reads = x }) (fault t file k.there k.held whole k.next);
+    cause = refusal_weaker e _ _ (λ l x. later_cause _ _ _ _ _ _ _ _ _ _ l refl look x) cause;
+    absent = λ t none new. absurd (absent t none new);
+  }
+
+  -- one record more was read
+  pub one_read : state ≡ Open → at ≡ h2.at
+      → (IsTrue told → (file : List ℕ) → map.get files1 r.name ≡ Some file → IsHeldOf file h1 → (whole : List Whole) → AreBehind (bits_of file) r.pages h1.at whole → IsOneMore (bits_of file) pages h2.at whole)
+      → IsTrue told → (file : List ℕ) → map.get files r.name ≡ Some file → (whole : List Whole) → IsInStep file r whole → StaysInStep file after whole (Ok true)
+  one_read is same reads t file there whole s =
+      let k = here t file there whole s in
+      let more = reads t file k.there k.held whole k.next in (
+        more.0,
+        more.1,
+        more.2 ∙ sym same,
+        subst (λ (x : State). AgreesIn x file after (more.0 ∷ whole)) (sym is)
+            (record { held = both.in_step t file there k.before; records = subst (λ (n : ℕ). AreBehind (bits_of file) pages n (more.0 ∷ whole)) (sym same) more.3 }),
+      )
+
+  -- all records were read, and the end is right
+  pub all_read : r.pages ≡ pages → r.at ≡ at
+      → (IsTrue told → (file : List ℕ) → map.get files1 r.name ≡ Some file → IsHeldOf file h1 → (whole : List Whole) → AreBehind (bits_of file) r.pages h1.at whole
+      → ReadsGraph r.pages.params (bits_of file) (Ok (record { graph = lists_of whole; places = places_of whole })))
+      → IsTrue told → (file : List ℕ) → map.get files r.name ≡ Some file → (whole : List Whole) → IsInStep file r whole → AgreesIn Done file after whole
+  all_read same stays reads t file there whole s =
+      let k = here t file there whole s in (
+        record { held = both.in_step t file there k.before; records = subst (λ (n : ℕ). AreBehind (bits_of file) pages n whole) stays (subst (λ (q : PagesRead). AreBehind (bits_of file) q r.at whole) same k.last) },
+        subst (λ (q : PagesRead). IsJudged file q.params (Ok (record { graph = lists_of whole; places = places_of whole }))) same (record { short = k.short; reads = reads t file k.there k.held whole k.next }),
+      )
+
+-- the same of an equal depot
+pub goes_as : {D : Type 0} (told : Bool) (files : D → Files) (counts : D → List ℕ → Counts) (x y z : D) (a b : Reading) (e : Result (Unit {0}) (PagesError LoadError)) → y ≡ z
+    → Goes told (files x) (files y) (counts x) (counts y) a b e → Goes told (files x) (files z) (counts x) (counts z) a b e
+goes_as told files counts x y z a b e same h = subst (λ w. Goes told (files x) (files w) (counts x) (counts w) a b e) same h

@@ -8,6 +8,7 @@ use Rattle.wg_stream.specs.declared.state.State.TheVariants.{Open, Done, Closed}
 use Rattle.wg_stream.specs.declared.stream_error.StreamError.{StreamError}
 use Rattle.wg_stream.specs.declared.stream_error.StreamError.TheVariants as errors
 use Rattle.wg_stream.specs.FirstError.{of_first}
+use Rattle.wg_stream.specs.Prefix.{HoldsFew}
 use Rattle.wg_stream.specs.Reading.{Reading, IsInStep}
 use Rattle.wg_source.specs.declared.stretch.TheConstants.{MOST_HELD}
 use Rattle.wg_stream.specs.contracts.reader.Reader.{the_row}
@@ -16,13 +17,13 @@ use Rattle.wg_stream.specs.contracts.reader.Reader.{the_row}
 abbrev pub RestsSo : MutBor Reading → (Reading → Type 0) → Fml
 RestsSo s P = Rests the_row s P
 
--- the same file by the same parameters, and an offset that does not fall; no more lists are kept than the window has,
--- and no more bytes of the file are held than one piece
+-- the same file by the same parameters, and an offset that does not fall; no more lists are kept than the window has, none
+-- that is held is longer than there are pages, and no more bytes of the file are held than one piece
 pub record KeepsOn (old after : Reading) : Type 0 where
   pub params : after.pages.params ≡ old.pages.params
   pub name : after.name ≡ old.name
   pub onward : old.at ≤ after.at
-  pub few : length after.pages.kept ≤ after.pages.params.window
+  pub few : HoldsFew after.pages
   pub small : length after.held.bytes ≤ MOST_HELD
 
 -- the lists of all pages were lent, with the promised arcs, and no list more

@@ -1,17 +1,27 @@
 -- A reading of a graph file, and what it knows of the file.
-use Rattle.std.specs.Prelude.{◌≡◌, ℕ, ◌*◌, ◌≤◌, Bool, true, false, List, ◌∷◌, length, Result, Ok, Err}
+use Rattle.std.specs.Prelude.{◌≡◌, ℕ, ◌*◌, ◌≤◌, Bool, true, false, List, ◌∷◌, length, Some, None, Result, Ok, Err, IsTrue, OnOk, IfErr}
+use Rattle.std.specs.FinMap as map
+use Rattle.wg_outside.specs.Outside.{Files, Counts, NonDecreasing}
 use Rattle.wg_outside.specs.declared.limits.TheConstants.{MOST_BYTES}
+use Rattle.wg_outside.specs.declared.whole.LoadError.{LoadError}
+use Rattle.wg_outside.specs.declared.whole.LoadError.TheVariants as load
 use Rattle.wg_bits.specs.Bits.{bits_of}
 use Rattle.wg_params.specs.Parameters.{Parameters}
 use Rattle.wg_grammar.specs.declared.fault.ArchiveFault.{ArchiveFault}
 use Rattle.wg_grammar.specs.Record.{Whole}
 use Rattle.wg_grammar.specs.Archive.{Accepted, ReadsGraph, lists_of, places_of}
+use Rattle.wg_stream.specs.declared.error.PagesError.{PagesError}
+use Rattle.wg_stream.specs.declared.error.PagesError.TheVariants.{Refused}
+use Rattle.wg_stream.specs.declared.first.First.{First}
 use Rattle.wg_stream.specs.declared.state.State.{State}
 use Rattle.wg_stream.specs.declared.state.State.TheVariants.{Open, Done, Closed}
 use Rattle.wg_stream.specs.declared.stream_error.StreamError.{StreamError}
-use Rattle.wg_stream.specs.FirstError.{OfGraph}
+use Rattle.wg_stream.specs.Errors.{OnFault, OnRefusal}
+use Rattle.wg_stream.specs.FirstError.{OfGraph, Says}
+use Rattle.wg_source.specs.declared.stretch.TheConstants.{MOST_HELD}
 use Rattle.wg_source.specs.Held.{HeldBytes, IsHeldOf, IsSmall}
-use Rattle.wg_stream.specs.Prefix.{PagesRead, AreBehind}
+use Rattle.wg_source.specs.Stepping.{HasCause}
+use Rattle.wg_stream.specs.Prefix.{PagesRead, AreBehind, HoldsFew}
 
 -- what was read of the records; the name of the file; the end of the last record; what is held of the file; and
 -- whether the reading goes on
@@ -32,7 +42,7 @@ Stands r (Closed e) = Unit {0}
 pub record IsSteady (r : Reading) : Type 0 where
   pub bound : r.at ≤ 8 * MOST_BYTES
   pub stands : Stands r r.state
-  pub few : length r.pages.kept ≤ r.pages.params.window
+  pub few : HoldsFew r.pages
   pub small : IsSmall r.held
 
 -- these are the records of the file that were read, the last of them first, and what is held is a part of the file
@@ -62,3 +72,22 @@ StaysInStep file r whole (Ok true) = (next : Whole) × (next.known.list ≡ r.pa
     × IsInStep file r (next ∷ whole)
 StaysInStep file r whole (Ok false) = IsInStep file r whole
 StaysInStep file r whole (Err e) = IsInStep file r whole
+
+-- A step of a reading that goes on: what stays as it is, what is held, and what an error tells.
+pub record Goes (told : Bool) (files files' : Files) (counts counts' : List ℕ → Counts) (old new : Reading)
+    (result : Result (Unit {0}) (PagesError LoadError)) : Type 0 where
+  pub params : new.pages.params ≡ old.pages.params
+  pub name : new.name ≡ old.name
+  pub onward : old.at ≤ new.at
+  pub same : files' ≡ files
+  pub later : NonDecreasing counts counts'
+  pub few : HoldsFew new.pages
+  pub small : length new.held.bytes ≤ MOST_HELD
+  pub looked : OnOk result (new.held.looked ≡ true)
+  -- an error closes the reading; it is the first of the file, and of the outside it has a cause
+  pub closed : IfErr result (λ e. (f : First) × Says e f × (new.state ≡ Closed f))
+  pub fault : IsTrue told → (file : List ℕ) → map.get files old.name ≡ Some file → (whole : List Whole)
+      → IsInStep file old whole → OnFault result (λ f. IsJudged file old.pages.params (Err f))
+  pub cause : OnRefusal result (HasCause told old.name files counts counts' old.held)
+  -- a file that is not there is missed at the first step
+  pub absent : IsTrue told → map.get files old.name ≡ None → old.held.looked ≡ false → result ≡ Err (Refused load.Absent)

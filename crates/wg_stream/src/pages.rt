@@ -1,14 +1,14 @@
 //! Page after page.
-ghost use Rattle.std.specs.Prelude.{◌≡◌, ◌+◌, ◌<◌, ◌≤◌, Bool, true, false, List as ListOf, [], ◌∷◌, Ok, Err, length, take, OnOk, OnErr};
+ghost use Rattle.std.specs.Prelude.{◌≡◌, ◌+◌, ◌<◌, ◌≤◌, ℕ, Bool, true, false, List as ListOf, [], ◌∷◌, Ok, Err, length, take, OnOk, OnErr};
 ghost use Rattle.wg_params.specs.Parameters.{IsWithinLimits};
 ghost use Rattle.wg_graph.specs.Ascending.{Ascends, Below};
 ghost use Rattle.wg_grammar.specs.Record.{Whole};
 ghost use Rattle.wg_grammar.specs.Archive.{lists_of, places_of, ReadsGraph};
 ghost use Rattle.wg_decoder.specs.Remembered.{known_of};
-ghost use Rattle.wg_decoder.specs.declared.spares.TheConstants.{MOST_SPARES};
+ghost use Rattle.wg_decoder.specs.Spare.{all_empty};
 ghost use Rattle.wg_stream.specs.Errors.{OnFault, OnRefusal, IsOfGraph};
 ghost use Rattle.wg_stream.specs.Nearest.{nearest};
-ghost use Rattle.wg_stream.specs.Prefix.{AreBehind, IsOneMore};
+ghost use Rattle.wg_stream.specs.Prefix.{AreBehind, AreShort, HoldsFew, IsOneMore};
 
 use crate::PagesError;
 use std::alloc::{AllocError, Global};
@@ -22,10 +22,11 @@ use wg_params::Params;
 /// Reads the records of an archive page by page, as `wg_encoder::Encoder` writes them: it owns all that has to be known
 /// of the pages before, and stands at the page that comes next.
 ///
-/// It is seen as its parameters, how many pages and arcs were read, what is kept of the pages before, and the list of
-/// the page that was read last. It keeps no more lists than the window of the parameters has, each with room for at
-/// most twice its numbers, or for few; three lists at most with room for as many as the longest; and two that have left
-/// the window. Hand in the same source at each call: the clauses on bits are of one that was.
+/// It is seen as its parameters, how many pages and arcs were read, what is kept of the pages before, the list of the
+/// page that was read last, and how long the lists are whose memory serves for later ones. It keeps no more lists than
+/// the window of the parameters has, each with room for at most twice its numbers, or for few; three lists with room for
+/// as many as the longest; and two that have left the window. None of these is ever longer than there are pages, however
+/// many are read ([`next`](Pages::next)). Pass the same source to every call: the clauses on bits assume it.
 #[derive(Debug)]
 pub struct Pages {
     params: Params,
@@ -50,16 +51,16 @@ impl Drop for Pages {
 }
 
 impl Model for Pages {
-    ghost use Rattle.std.specs.Prelude.{◌≡◌};
+    ghost use Rattle.std.specs.Prelude.{◌≡◌, length};
     ghost use Rattle.wg_stream.specs.Prefix.{PagesRead, AreSound};
     ghost use Rattle.wg_stream.specs.Nearest.{nearest};
 
     ghost Value = { PagesRead };
 
-    ghost view = { λ r. record { params = r.params; page = r.page; arcs = r.arcs; kept = r.window.behind; list = nearest r.window.behind r.past } };
+    ghost view = { λ r. record { params = r.params; page = r.page; arcs = r.arcs; kept = r.window.behind; list = nearest r.window.behind r.past; spares = r.spares; past = length r.past } };
 
     ghost invariant = { λ r. (r.window.window ≡ r.params.window)
-        × AreSound (record { params = r.params; page = r.page; arcs = r.arcs; kept = r.window.behind; list = nearest r.window.behind r.past }) };
+        × AreSound (record { params = r.params; page = r.page; arcs = r.arcs; kept = r.window.behind; list = nearest r.window.behind r.past; spares = r.spares; past = length r.past }) };
 }
 
 // Keeps the page in the window. The list that leaves it is the one past the window; if the window keeps none, that is
@@ -77,6 +78,8 @@ fn keep(
     ensures err { OnErr result (window.new ≡ window.old) }
     ensures same { OnErr result (past.new ≡ past.old) }
     ensures few { OnOk result (length window.new.behind ≤ window.new.window) }
+    ensures short { (most : ℕ) → AreShort most window.old.behind spares.old (length past.old)
+        → length decoded.list ≤ most → AreShort most window.new.behind spares.new (length past.new) }
 {
     if let Some(furthest) = window.exchange(decoded.list, decoded.depth)? {
         let before = mem::replace(past, furthest.list);
@@ -92,7 +95,7 @@ impl Pages {
         ensures limits { IsWithinLimits params }
         ensures none { (result.page ≡ 0) × (result.arcs ≡ 0) × (result.list ≡ []) }
         ensures behind { (bits : ListOf Bool) → AreBehind bits result 0 [] }
-        ensures kept { result.kept ≡ [] }
+        ensures kept { (result.kept ≡ []) × (result.spares ≡ all_empty) × (result.past ≡ 0) }
     {
         Pages {
             params,
@@ -118,13 +121,6 @@ impl Pages {
         }
     }
 
-    /// How many lists more it holds, whose memory serves for later ones.
-    pub fn spare_lists(&self) -> usize
-        ensures few { result ≤ MOST_SPARES + 1 }
-    {
-        self.spares.len() + 1
-    }
-
     /// Whether the records of all pages were read.
     pub fn is_done(&self) -> bool
         ensures done { result ≡ true → self.now.page ≡ self.now.params.nodes }
@@ -134,13 +130,13 @@ impl Pages {
     }
 
     /// Reads the record of the page that comes next, and goes on to the one after it. If it is refused, it stays at
-    /// this page. It takes time in proportion to the words of the record, to its list and to the one that it refers to.
+    /// this page. Whatever the answer, no list that it holds is longer than there are pages. It takes time in proportion to the words of the record, to its list and to the one that it refers to.
     pub fn next<S: Source>(&mut self, source: &mut S) -> Result<(), PagesError<S::Refusal>>
         requires more { self.old.page < self.old.params.nodes }
         ensures params { self.new.params ≡ self.old.params }
         ensures page { OnOk result (self.new.page ≡ self.old.page + 1) }
         ensures arcs { OnOk result (self.new.arcs ≡ self.old.arcs + length self.new.list) }
-        ensures err { OnErr result (self.new ≡ self.old) }
+        ensures err { OnErr result (self.new ≡ record self.old { spares = self.new.spares }) }
         ensures graph { OnFault result IsOfGraph }
         ensures later { S.later source.old source.new }
         ensures refused { OnRefusal result (S.caused source.old source.new) }
@@ -150,7 +146,7 @@ impl Pages {
         ensures fault { (bits : ListOf Bool) (behind : ListOf Whole) → S.reads_from source.old bits
             → AreBehind bits self.old (S.offset source.old) behind
             → OnFault result (λ f. ReadsGraph self.old.params bits (Err f)) }
-        ensures few { length self.new.kept ≤ self.new.params.window }
+        ensures few { HoldsFew self.new }
     {
         let decoded = decode_from(
             &self.params,

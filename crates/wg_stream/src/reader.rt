@@ -1,5 +1,5 @@
 //! A graph file, read list after list.
-ghost use Rattle.std.specs.Prelude.{◌≡◌, ◌+◌, ◌*◌, ◌/◌, ◌≤◌, ℕ, true, false, List as ListOf, [], Some, None, Ok, Err, length, string_bytes, IsTrue, IfOk, IfErr, IfSome, MatchOption};
+ghost use Rattle.std.specs.Prelude.{◌≡◌, ◌+◌, ◌*◌, ◌/◌, ◌<◌, ◌≤◌, ℕ, true, false, List as ListOf, [], Some, None, Ok, Err, length, string_bytes, IsTrue, IfOk, IfErr, IfSome, OnOk, MatchOption};
 ghost use Rattle.std.specs.FinMap as map;
 ghost use Rattle.wg_outside.specs.declared.limits.TheConstants.{MOST_BYTES};
 ghost use Rattle.wg_outside.specs.Outside.{NonDecreasing};
@@ -9,26 +9,28 @@ ghost use Rattle.wg_grammar.specs.Record.{Whole};
 ghost use Rattle.wg_stream.specs.declared.first.First.{First};
 ghost use Rattle.wg_stream.specs.declared.state.State.TheVariants.{Open, Done, Closed};
 ghost use Rattle.wg_stream.specs.declared.stream_error.StreamError.TheVariants as errors;
-ghost use Rattle.wg_stream.specs.FirstError.{of_first, OfOutside};
-ghost use Rattle.wg_stream.specs.Reading.{IsInStep, StaysInStep};
+ghost use Rattle.wg_stream.specs.FirstError.{of_first, OfOutside, Says};
+ghost use Rattle.wg_stream.specs.Reading.{AgreesIn, Goes, IsInStep, StaysInStep};
 ghost use Rattle.wg_source.specs.Stepping.{HasCause};
-ghost use Rattle.wg_decoder.specs.declared.spares.TheConstants.{MOST_SPARES};
+ghost use Rattle.wg_decoder.specs.Spare.{all_empty};
+ghost use Rattle.wg_stream.specs.Errors.{OfFault, IsOfGraph};
+ghost use Rattle.wg_stream.specs.Prefix.{HoldsFew};
 ghost use Rattle.wg_source.specs.declared.stretch.TheConstants.{MOST_HELD};
 
-use crate::parts::go_on;
 use crate::state::State;
-use crate::{Pages, StreamError};
+use crate::{First, Pages, PagesError, StreamError};
 use std::alloc::{AllocError, Global};
 use std::marker::Model;
-use wg_outside::Depot;
+use wg_grammar::ArchiveFault;
+use wg_outside::{Depot, LoadError};
 use wg_params::Params;
-use wg_source::Stretch;
+use wg_source::{FileSource, Stretch};
 
 /// A graph file that is read list after list, in pieces of at most 4096 bytes.
 ///
-/// It keeps no more lists of the pages before than the window of the parameters has, the list that it lends, and few
-/// lists more, whose memory is used again ([`spare_lists`](Reader::spare_lists)). Of the file it holds at most
-/// [`MOST_HELD`](wg_source::MOST_HELD) bytes, however long a record is: behind the record of a list that it has lent it
+/// It keeps no more lists of the pages before than the window of the parameters has, the list that it lends, and five
+/// lists more, whose memory is used again, so that few records take any of their own. None of them is ever longer than
+/// there are pages. Of the file it holds at most [`MOST_HELD`](wg_source::MOST_HELD) bytes, however long a record is: behind the record of a list that it has lent it
 /// has read no further than that. All this holds after each call, after an error too, and whatever the depot answers.
 #[derive(Debug)]
 pub struct Reader {
@@ -62,6 +64,32 @@ impl Model for Reader {
     ghost invariant = { λ r. IsSteady (record { pages = r.pages; name = string_bytes r.name; at = r.at; held = r.held; state = r.state }) };
 }
 
+// The first error of a reading, as its later calls name it. The records and the tail have no fault of the offsets.
+#[cold]
+#[inline(never)]
+fn first_of(error: PagesError<LoadError>) -> First
+    requires { OfFault error IsOfGraph }
+    ensures { Says error result }
+{
+    match error {
+        PagesError::Memory => First::Memory,
+        PagesError::Refused(error) => First::from(error),
+        PagesError::Fault(ArchiveFault::Record(fault)) => First::Fault(fault),
+        PagesError::Fault(ArchiveFault::Tail(at)) => First::Tail(at),
+        PagesError::Fault(ArchiveFault::ArcsShort(total)) => First::ArcsShort(total),
+        PagesError::Fault(ArchiveFault::Offsets(_word)) => unreachable!(),
+        PagesError::Fault(ArchiveFault::Length { .. }) => unreachable!(),
+    }
+}
+
+// A reading after its first error.
+fn closed_by(error: PagesError<LoadError>) -> State
+    requires { OfFault error IsOfGraph }
+    ensures { (f : First) × Says error f × (result ≡ Closed f) }
+{
+    State::Closed(first_of(error))
+}
+
 impl Reader {
     ghost use Rattle.std.specs.Borrow.{sem};
     ghost use Rattle.wg_stream.specs.Lending.{RestsSo, KeepsOn, IsDone, HasLent, HasRead, IsClosed};
@@ -75,7 +103,7 @@ impl Reader {
         ensures none { IfOk result (λ r. (r.pages.page ≡ 0) × (r.pages.arcs ≡ 0) × (r.at ≡ 0)) }
         ensures unlooked { IfOk result (λ r. r.held.looked ≡ false) }
         ensures in_step { IfOk result (λ r. (file : ListOf ℕ) → IsInStep file r []) }
-        ensures kept { IfOk result (λ r. r.pages.kept ≡ []) }
+        ensures kept { IfOk result (λ r. (r.pages.kept ≡ []) × (r.pages.spares ≡ all_empty) × (r.pages.past ≡ 0)) }
         ensures held { IfOk result (λ r. r.held.bytes ≡ []) }
     {
         let name = String::from_str(alloc, name)?;
@@ -106,17 +134,72 @@ impl Reader {
         self.pages.list()
     }
 
-    /// How many lists it holds besides those of the window and the one that it lends: their memory serves for later
-    /// lists, so that few records take any of their own.
-    pub fn spare_lists(&self) -> usize
-        ensures few { result ≤ MOST_SPARES + 1 }
+    /// Reads the record of the page that comes next, whose list is then that of [`list`](Reader::list). An error is the
+    /// first one, and after it no more is read.
+    #[inline(always)]
+    pub fn next_record<D: Depot>(&mut self, depot: &mut D) -> Result<(), PagesError<LoadError>>
+        requires going { self.old.state ≡ Open }
+        requires more { self.old.pages.page < self.old.pages.params.nodes }
+        ensures goes { Goes D.told (D.files depot.old) (D.files depot.new) (D.counts depot.old) (D.counts depot.new)
+            self.old self.new result }
+        ensures going { OnOk result (self.new.state ≡ Open) }
+        ensures page { OnOk result (self.new.pages.page ≡ self.old.pages.page + 1) }
+        ensures arcs { OnOk result (self.new.pages.arcs ≡ self.old.pages.arcs + length self.new.pages.list) }
+        ensures near { OnOk result (self.new.held.first + length self.new.held.bytes ≤ self.new.at / 8 + MOST_HELD) }
+        ensures in_step { IsTrue D.told → (file : ListOf ℕ) → map.get (D.files depot.old) self.old.name ≡ Some file
+            → (whole : ListOf Whole) → IsInStep file self.old whole → OnOk result (StaysInStep file self.new whole (Ok true)) }
     {
-        self.pages.spare_lists()
+        if let Err(error) = self.held.look(depot, self.name.as_str()) {
+            self.state = closed_by(PagesError::Refused(error));
+            return Err(PagesError::Refused(error));
+        }
+        let mut source = FileSource::new(depot, self.name.as_str(), &mut self.held);
+        match self.pages.next(&mut source) {
+            Ok(()) => {
+                self.at = self.held.at();
+                Ok(())
+            }
+            Err(error) => {
+                self.state = closed_by(error);
+                Err(error)
+            }
+        }
     }
 
-    /// Reads the record that comes next, or checks the end, if there is none; from then on, and after an error, it
-    /// reads nothing. The list is that of [`list`](Reader::list).
-    pub fn advance<D: Depot>(&mut self, depot: &mut D) -> Result<bool, StreamError>
+    /// Checks what follows the records: the tail, and the number of arcs. From then on, and after an error, no more is
+    /// read.
+    #[cold]
+    #[inline(never)]
+    pub fn finish<D: Depot>(&mut self, depot: &mut D) -> Result<(), PagesError<LoadError>>
+        requires going { self.old.state ≡ Open }
+        requires done { self.old.pages.page ≡ self.old.pages.params.nodes }
+        ensures goes { Goes D.told (D.files depot.old) (D.files depot.new) (D.counts depot.old) (D.counts depot.new)
+            self.old self.new result }
+        ensures done { OnOk result ((self.new.state ≡ Done) × (self.new.pages ≡ self.old.pages)) }
+        ensures total { OnOk result (self.old.pages.arcs ≡ self.old.pages.params.arcs) }
+        ensures in_step { IsTrue D.told → (file : ListOf ℕ) → map.get (D.files depot.old) self.old.name ≡ Some file
+            → (whole : ListOf Whole) → IsInStep file self.old whole → OnOk result (AgreesIn Done file self.new whole) }
+    {
+        if let Err(error) = self.held.look(depot, self.name.as_str()) {
+            self.state = closed_by(PagesError::Refused(error));
+            return Err(PagesError::Refused(error));
+        }
+        let mut source = FileSource::new(depot, self.name.as_str(), &mut self.held);
+        match self.pages.finish(&mut source) {
+            Ok(()) => {
+                self.state = State::Done;
+                Ok(())
+            }
+            Err(error) => {
+                self.state = closed_by(error);
+                Err(error)
+            }
+        }
+    }
+
+    // Reads the record that comes next, or checks the end, if there is none; from then on, and after an error, it
+    // reads nothing.
+    fn advance<D: Depot>(&mut self, depot: &mut D) -> Result<bool, StreamError>
         ensures done { self.old.state ≡ Done → (result ≡ Ok false) × (self.new ≡ self.old) × (depot.new ≡ depot.old) }
         ensures closed { (e : First) → self.old.state ≡ Closed e → (result ≡ Err (errors.Closed e))
             × (self.new ≡ self.old) × (depot.new ≡ depot.old) }
@@ -141,7 +224,7 @@ impl Reader {
         ensures in_step { IsTrue D.told → (file : ListOf ℕ) → map.get (D.files depot.old) self.old.name ≡ Some file
             → (whole : ListOf Whole) → IsInStep file self.old whole
             → StaysInStep file self.new whole result }
-        ensures few { length self.new.pages.kept ≤ self.new.pages.params.window }
+        ensures few { HoldsFew self.new.pages }
         ensures small { length self.new.held.bytes ≤ MOST_HELD }
         ensures near { result ≡ Ok true → self.new.held.first + length self.new.held.bytes
             ≤ self.new.at / 8 + MOST_HELD }
@@ -150,19 +233,15 @@ impl Reader {
             State::Closed(first) => Err(StreamError::Closed(first)),
             State::Done => Ok(false),
             State::Open => {
-                match go_on(&mut self.pages, &mut self.held, depot, self.name.as_str()) {
-                    Ok(more) => {
-                        if more {
-                            self.at = self.held.at();
-                            return Ok(true);
-                        }
-                        self.state = State::Done;
-                        Ok(false)
-                    }
-                    Err(first) => {
-                        self.state = State::Closed(first);
-                        Err(StreamError::from(first))
-                    }
+                if self.pages.is_done() {
+                    return match self.finish(depot) {
+                        Ok(()) => Ok(false),
+                        Err(error) => Err(StreamError::from(first_of(error))),
+                    };
+                }
+                match self.next_record(depot) {
+                    Ok(()) => Ok(true),
+                    Err(error) => Err(StreamError::from(first_of(error))),
                 }
             }
         }

@@ -1,12 +1,26 @@
-use Rattle.wg_outside.proofs.PutsLemmas.{is_that_err}
+use Rattle.std.proofs.Common.{◌∙◌, Ok, ap, subst}
+use Rattle.std.specs.FinMap as map
+use Rattle.wg_outside.specs.Outside.{Files}
+use Rattle.wg_params.specs.Parameters.{Parameters}
+use Rattle.wg_grammar.specs.Archive.{lists_of, places_of}
+use Rattle.wg_stream.specs.Reading.{IsJudged}
+use Rattle.wg_readings.proofs.PassLemmas.{advances, stops}
 use Rattle.wg_readings.proofs.records.end_records.Goals as goal
 
-pub returns-in_err-go_on : goal.returns-in_err-go_on
-returns-in_err-go_on g c =
-    rw (is_that_err c.from_residual.result _ c.from_residual.ensures.1)
-    record { total = tt; advances = c.in_err-go_on.ensures.advances; judged = λ t held same file is whole s. tt }
+pub returns-in-Ok : goal.returns-in-Ok
+returns-in-Ok g c =
+    let e = c.in-Ok.ensures in
+    record {
+      total = e.total ∙ ap (λ (p : Parameters). p.arcs) c.requires.params;
+      advances = advances _ _ _ _ _ _ _ _ c.requires.«open» c.requires.params e.goes;
+      judged = λ t held same file is whole s.
+          subst (λ (p : Parameters). IsJudged file p (Ok (record { graph = lists_of whole; places = places_of whole }))) (e.goes.params ∙ c.requires.params)
+          (e.in_step t file (ap (λ (f : Files). map.get f c.args.reader.now.name) same ∙ is) whole s).1;
+    }
 
-pub returns : goal.returns
-returns g c =
-    let e = c.in_ok-go_on.ensures in
-    record { total = e.end c.requires.done; advances = e.advances; judged = λ t held same file is whole s. e.judged t held same file is whole s c.requires.done }
+pub returns-in-Err : goal.returns-in-Err
+returns-in-Err g c = record {
+  total = tt;
+  advances = stops _ _ _ _ _ _ _ _ c.requires.«open» c.requires.params c.in-Err.error _ c.ending_at.ensures c.in-Err.ensures.goes;
+  judged = λ t held same file is whole s. tt;
+}

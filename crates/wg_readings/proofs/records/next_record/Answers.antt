@@ -1,13 +1,29 @@
-use Rattle.wg_outside.proofs.PutsLemmas.{is_that_err}
+use Rattle.std.proofs.Common.{◌∙◌, ap, sym}
+use Rattle.std.specs.FinMap as map
+use Rattle.wg_outside.specs.Outside.{Files}
+use Rattle.wg_params.specs.Parameters.{Parameters}
+use Rattle.wg_readings.proofs.PassLemmas.{advances, stops}
 use Rattle.wg_readings.proofs.records.next_record.Goals as goal
 
-pub returns-in_err-go_on : goal.returns-in_err-go_on
-returns-in_err-go_on g c =
-    rw (is_that_err c.from_residual.result _ c.from_residual.ensures.1)
-    record { advances = c.in_err-go_on.ensures.advances; «open» = tt; page = tt; arcs = tt; in_step = λ t held same file is whole s. tt }
+pub next_record-requires-clause-more : goal.next_record-requires-clause-more
+next_record-requires-clause-more g c = rw (sym c.requires.params) at c.requires.more
 
-pub returns : goal.returns
-returns g c =
-    let e = c.in_ok-go_on.ensures in
-    let m = e.more c.requires.more in
-    record { advances = e.advances; «open» = m.0; page = m.1; arcs = m.2; in_step = λ t held same file is whole s. e.in_step t held same file is whole s c.requires.more }
+pub returns-in-Ok : goal.returns-in-Ok
+returns-in-Ok g c =
+    let e = c.in-Ok.ensures in
+    record {
+      advances = advances _ _ _ _ _ _ _ _ c.requires.«open» c.requires.params e.goes;
+      «open» = e.going;
+      page = e.page;
+      arcs = e.arcs;
+      in_step = λ t held same file is whole s. e.in_step t file (ap (λ (f : Files). map.get f c.args.reader.now.name) same ∙ is) whole s;
+    }
+
+pub returns-in-Err : goal.returns-in-Err
+returns-in-Err g c = record {
+  advances = stops _ _ _ _ _ _ _ _ c.requires.«open» c.requires.params c.in-Err.error _ c.ending_at.ensures c.in-Err.ensures.goes;
+  «open» = tt;
+  page = tt;
+  arcs = tt;
+  in_step = λ t held same file is whole s. tt;
+}

@@ -7,9 +7,10 @@ use Rattle.wg_outside.proofs.PutsLemmas.{is_that_err}
 use Rattle.std.proofs.lemmas.Result.{err_from_is_err_and}
 use Rattle.wg_grammar.specs.Archive.{ReadsGraph}
 use Rattle.wg_grammar.specs.declared.fault.ArchiveFault.TheVariants as archive
+use Rattle.wg_decoder.proofs.Lists.{short_below}
 use Rattle.wg_decoder.proofs.Serving.{serves_next}
 use Rattle.wg_stream.proofs.ErrorLemmas.{unread_of_graph, unread_fault, unread_refusal}
-use Rattle.wg_stream.proofs.PrefixLemmas.{one_more, one_refused}
+use Rattle.wg_stream.proofs.PrefixLemmas.{one_more, one_refused, sound_spared}
 use Rattle.wg_stream.proofs.pages.Pages.next.Goals as goal
 
 pub returns-clause-reads : goal.returns-clause-reads
@@ -40,7 +41,9 @@ decode_from-requires g c = record {
 }
 
 pub invariant_of-self : goal.invariant_of-self
-invariant_of-self g c = c.self.invariant
+invariant_of-self g c =
+    let v = c.self.invariant in
+    (v.0, sound_spared _ c.decode_from.new.spares v.1 (c.in_err-decoded.ensures.short v.1.held.short.spares))
 
 pub returns-in_err-decoded : goal.returns-in_err-decoded
 returns-in_err-decoded g c =
@@ -52,7 +55,7 @@ returns-in_err-decoded g c =
       params = ap (λ (s : PagesRead). s.params) c.self.view_is;
       page = tt;
       arcs = tt;
-      err = c.self.view_is;
+      err = ap (λ (s : PagesRead). record s { spares = c.decode_from.new.spares }) c.self.view_is;
       graph = unread_of_graph c.in_err-decoded.field-0.0;
       later = n.later;
       refused = unread_refusal c.in_err-decoded.field-0.0 _ n.refused;
@@ -62,11 +65,18 @@ returns-in_err-decoded g c =
           unread_fault c.in_err-decoded.field-0.0 _ _
           (λ f refused. subst (λ (s : PagesRead). ReadsGraph s.params bits (Err (archive.Record f))) c.self.view_is (one_refused i.params bits i.page i.arcs at i.window.behind behind f here next refused))
           (n.fault bits r);
-      few = c.self.invariant.1.near;
+      few = (sound_spared _ c.decode_from.new.spares c.self.invariant.1 (n.short c.self.invariant.1.held.short.spares)).held;
     }
 
 pub invariant_of-self-in_err-keep : goal.invariant_of-self-in_err-keep
-invariant_of-self-in_err-keep g c = rw (c.in_err-keep.ensures.err, c.in_err-keep.ensures.same) c.self.invariant
+invariant_of-self-in_err-keep g c =
+    let v = c.self.invariant in
+    let n = c.in_ok-decoded.ensures in
+    let k = c.in_err-keep.ensures in
+    let h = v.1.held.short in
+    let le = short_below _ _ n.ascends n.below in
+    let short = k.short c.self.inside.params.nodes (record { kept = h.kept; spares = n.short h.spares; past = h.past }) le in
+    rw (k.err, k.same) (v.0, sound_spared _ c.keep.new.spares v.1 short.spares)
 
 pub returns-in_err-keep : goal.returns-in_err-keep
 returns-in_err-keep g c =
@@ -75,13 +85,18 @@ returns-in_err-keep g c =
       params = ap (λ (s : PagesRead). s.params) c.self.view_is;
       page = tt;
       arcs = tt;
-      err = c.self.view_is;
+      err = ap (λ (s : PagesRead). record s { spares = c.keep.new.spares }) c.self.view_is;
       graph = tt;
       later = c.in_ok-decoded.ensures.later;
       refused = tt;
       reads = λ bits behind r h. tt;
       fault = λ bits behind r h. tt;
-      few = c.self.invariant.1.near;
+      few =
+          let v = c.self.invariant.1 in
+          let n = c.in_ok-decoded.ensures in
+          let h = v.held.short in
+          let short = c.in_err-keep.ensures.short c.self.inside.params.nodes (record { kept = h.kept; spares = n.short h.spares; past = h.past }) (short_below _ _ n.ascends n.below) in
+          (sound_spared _ c.keep.new.spares v short.spares).held;
     }
 
 pub invariant_of-self-2 : goal.invariant_of-self-2
@@ -89,6 +104,8 @@ invariant_of-self-2 g c =
     let v = c.self.invariant in
     let n = c.in_ok-decoded.ensures in
     let k = c.in_ok-keep.ensures in
+    let h = v.1.held.short in
+    let short = k.short c.self.inside.params.nodes (record { kept = h.kept; spares = n.short h.spares; past = h.past }) (short_below _ _ n.ascends n.below) in
     let next = subst (λ (s : PagesRead). s.page < s.params.nodes) (sym c.self.view_is) c.requires.more in (
       k.window ∙ v.0,
       rw (k.list, k.ok, v.0, c.as_slice.ensures) record {
@@ -97,6 +114,17 @@ invariant_of-self-2 g c =
         serves = serves_next _ _ _ (known_of c.in_ok-decoded.decoded) v.1.serves n.ascends n.below n.depth;
         ascends = n.ascends;
         below = n.below;
-        near = rw (k.ok, k.window, v.0) at k.few;
+        held = record { near = rw (k.ok, k.window, v.0) at k.few; short = rw (k.ok, v.0) at short };
       },
     )
+
+pub returns-clause-few : goal.returns-clause-few
+returns-clause-few g c =
+    let v = c.self.invariant in
+    let n = c.in_ok-decoded.ensures in
+    let k = c.in_ok-keep.ensures in
+    let h = v.1.held.short in
+    record {
+      near = omega (arith, k.few, k.window, v.0);
+      short = k.short c.self.inside.params.nodes (record { kept = h.kept; spares = n.short h.spares; past = h.past }) (short_below _ _ n.ascends n.below);
+    }

@@ -8,7 +8,7 @@ use Rattle.wg_stream.specs.FirstError.{OfGraph}
 use Rattle.wg_stream.specs.Prefix.{PagesRead, AreBehind}
 use Rattle.wg_stream.specs.Reading.{Reading, AgreesIn, IsJudged}
 use Rattle.wg_stream.proofs.ErrorLemmas.{no_ok, no_err, no_more, no_end}
-use Rattle.wg_stream.proofs.ReadingLemmas.{reads_of, open_done, open_closed, done_closed, told_again, told_cause, told_absent, near_of, onward_of, not_before}
+use Rattle.wg_stream.proofs.ReadingLemmas.{reads_of, open_done, open_closed, done_closed, not_before, told_absent, told_again, told_cause, told_err, told_in_step}
 use Rattle.wg_stream.proofs.reader.Reader.advance.Goals as goal
 
 pub returns-in-Closed : goal.returns-in-Closed
@@ -57,112 +57,19 @@ returns-in-Done g c =
       near = λ x. absurd (no_more x);
     }
 
-pub returns-then-more : goal.returns-then-more
-returns-then-more g c =
-    let i = c.self.inside in
-    let r : Reading = record { pages = i.pages; name = c.as_str.result.now; at = i.at; held = i.held; state = i.state } in
-    let v = c.self.invariant in
-    let stands = rw (sym c.as_str.ensures.value) at v.stands in
-    let h = c.in-Ok.ensures in
-    let is = c.in-Open.is in
-    let at = c.at-self-inside.ensures.at in
-    rw (sym c.self.view_is, sym c.as_str.ensures.value) record {
-      done = λ d. absurd (open_done _ is d);
-      closed = λ e x. absurd (open_closed _ _ is x);
-      err = λ _. tt;
-      params = h.params;
-      name = refl;
-      onward = onward_of r _ _ is stands h.steps.onward at;
-      more = λ _.
-          let more = h.more (ap Ok c.if-more.true) in
-          (is, h.looked, more.0, more.1, more.2);
-      end = λ x. absurd (no_end x);
-      absent = λ t n o l. absurd (no_err (h.absent t n l));
-      cause = λ o f x. absurd (no_err x);
-      same = h.steps.same;
-      later = h.steps.later;
-      in_step = λ t file there whole s.
-          let a = reads_of file r whole is stands s in
-          let more = h.reads t file there a.0 whole a.1 (ap Ok c.if-more.true) in
-          let new : Reading = record { pages = c.go_on.new.pages; name = c.as_str.result.now; at = c.at-self-inside.result; held = c.go_on.new.held; state = i.state } in (
-            more.0,
-            more.1,
-            more.2 ∙ sym at,
-            subst (λ (x : State). AgreesIn x file new (more.0 ∷ whole)) (sym is)
-                (record {
-                  held = h.steps.in_step t file there a.0;
-                  records = subst (λ (n : ℕ). AreBehind (bits_of file) c.go_on.new.pages n (more.0 ∷ whole)) (sym at) more.3;
-                }),
-          );
-      few = h.few v.few;
-      small = (h.steps.small v.small).few;
-      near = λ _. near_of _ _ (h.steps.small v.small) at;
-    }
+pub returns-in-Ok-clause-in_step : goal.returns-in-Ok-clause-in_step
+returns-in-Ok-clause-in_step g c = λ t file there whole s.
+    let e = c.in-Ok.ensures in
+    subst (λ (x : State). AgreesIn x file c.finish.new.self whole) (sym e.done.0) (e.in_step t file there whole s)
 
-pub returns-else-more : goal.returns-else-more
-returns-else-more g c =
-    let i = c.self.inside in
-    let r : Reading = record { pages = i.pages; name = c.as_str.result.now; at = i.at; held = i.held; state = i.state } in
-    let v = c.self.invariant in
-    let stands = rw (sym c.as_str.ensures.value) at v.stands in
-    let h = c.in-Ok.ensures in
-    let is = c.in-Open.is in
-    let none = ap Ok c.if-more.false in
-    rw (sym c.self.view_is, sym c.as_str.ensures.value) record {
-      done = λ d. absurd (open_done _ is d);
-      closed = λ e x. absurd (open_closed _ _ is x);
-      err = λ _. tt;
-      params = h.params;
-      name = refl;
-      onward = not_before _;
-      more = λ x. absurd (no_more x);
-      end = λ _.
-          let end = h.end none in
-          (refl, end.0, end.1, end.2);
-      absent = λ t n o l. absurd (no_err (h.absent t n l));
-      cause = λ o f x. absurd (no_err x);
-      same = h.steps.same;
-      later = h.steps.later;
-      in_step = λ t file there whole s.
-          let a = reads_of file r whole is stands s in
-          let same = (h.end none).0 in (
-            record {
-              held = h.steps.in_step t file there a.0;
-              records = subst (λ (q : PagesRead). AreBehind (bits_of file) q i.at whole) (sym same) a.2;
-            },
-            subst (λ (p : Parameters). IsJudged file p (Ok (record { graph = lists_of whole; places = places_of whole }))) (sym h.params)
-                (h.judged t file there a.0 whole a.1 none),
-          );
-      few = h.few v.few;
-      small = (h.steps.small v.small).few;
-      near = λ x. absurd (no_more x);
-    }
+pub returns-in-Err-clause-err : goal.returns-in-Err-clause-err
+returns-in-Err-clause-err g c = λ o. told_err _ _ _ _ _ _ _ c.in-Err.error c.in-Err.ensures.goes c.first_of.result c.first_of.ensures c.from.result c.from.ensures
 
-pub returns-in-Err : goal.returns-in-Err
-returns-in-Err g c =
-    let i = c.self.inside in
-    let r : Reading = record { pages = i.pages; name = c.as_str.result.now; at = i.at; held = i.held; state = i.state } in
-    let v = c.self.invariant in
-    let stands = rw (sym c.as_str.ensures.value) at v.stands in
-    let h = c.in-Err.ensures in
-    let is = c.in-Open.is in
-    rw (sym c.self.view_is, sym c.as_str.ensures.value) record {
-      done = λ d. absurd (open_done _ is d);
-      closed = λ e x. absurd (open_closed _ _ is x);
-      err = λ _. (c.in-Err.first, c.from.ensures, refl);
-      params = h.params;
-      name = refl;
-      onward = not_before _;
-      more = λ x. absurd (no_ok x);
-      end = λ x. absurd (no_ok x);
-      absent = λ t n o l. told_absent c.in-Err.first _ c.from.ensures (h.absent t n l);
-      cause = λ o f x. told_cause c.in-Err.first f _ _ c.from.ensures h.cause x;
-      same = h.steps.same;
-      later = h.steps.later;
-      in_step = λ t file there whole s.
-          let a = reads_of file r whole is stands s in
-          subst (λ (p : Parameters). OfGraph c.in-Err.first (λ f. IsJudged file p (Err f))) (sym h.params) (h.fault t file there a.0 whole a.1);
-      few = h.few v.few;
-      small = (h.steps.small v.small).few;
-      near = λ x. absurd (no_ok x);
-    }
+pub returns-in-Err-clause-absent : goal.returns-in-Err-clause-absent
+returns-in-Err-clause-absent g c = λ t none o fresh. told_absent _ _ _ _ _ _ _ c.in-Err.error c.in-Err.ensures.goes c.first_of.result c.first_of.ensures c.from.result c.from.ensures t none fresh
+
+pub returns-in-Err-clause-cause : goal.returns-in-Err-clause-cause
+returns-in-Err-clause-cause g c = λ o. told_cause _ _ _ _ _ _ _ c.in-Err.error c.in-Err.ensures.goes c.first_of.result c.first_of.ensures c.from.result c.from.ensures
+
+pub returns-in-Err-clause-in_step : goal.returns-in-Err-clause-in_step
+returns-in-Err-clause-in_step g c = told_in_step _ _ _ _ _ _ _ c.in-Err.error c.in-Err.ensures.goes c.first_of.result c.first_of.ensures c.from.result c.from.ensures
