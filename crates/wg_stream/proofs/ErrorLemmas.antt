@@ -1,5 +1,5 @@
 -- A fault or a refusal of a part as one of the whole.
-use Rattle.std.proofs.Common.{◌≡◌, Bool, true, false, Result, Ok, Err}
+use Rattle.std.proofs.Common.{◌≡◌, Result, Ok, Err}
 use Rattle.std.specs.Result.{OnOk}
 use Rattle.wg_grammar.specs.declared.fault.ArchiveFault.{ArchiveFault}
 use Rattle.wg_grammar.specs.declared.fault.Fault.{Fault as RecordFault}
@@ -55,14 +55,5 @@ unread_refusal unread.Memory P h = tt
 unread_refusal (unread.Refused r) P h = h
 
 -- one answer is no other
-pub no_ok : {A E : Type 0} {e : E} {a : A} → ◌≡◌ {A = Result A E} (Err e) (Ok a) → ⊥
-no_ok is = absurd (cc is)
-
 pub no_err : {A E : Type 0} {e : E} {a : A} → ◌≡◌ {A = Result A E} (Ok a) (Err e) → ⊥
 no_err is = absurd (cc is)
-
-pub no_more : {E : Type 0} → ◌≡◌ {A = Result Bool E} (Ok false) (Ok true) → ⊥
-no_more is = absurd (cc is)
-
-pub no_end : {E : Type 0} → ◌≡◌ {A = Result Bool E} (Ok true) (Ok false) → ⊥
-no_end is = absurd (cc is)

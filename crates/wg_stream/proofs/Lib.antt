@@ -1,6 +1,5 @@
 pub mod PrefixLemmas
 pub mod ErrorLemmas
-pub mod FirstErrorLemmas
 pub mod ReadingLemmas
 pub mod AllRecords
 pub mod AcceptedRecords

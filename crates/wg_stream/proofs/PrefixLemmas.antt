@@ -15,7 +15,7 @@ use Rattle.wg_decoder.specs.Answer.{context_at}
 use Rattle.wg_decoder.specs.Remembered.{known_of}
 use Rattle.wg_decoder.specs.Spare.{SpareLengths, NoneLonger}
 use Rattle.wg_decoder.specs.declared.decoded.Decoded.{Decoded}
-use Rattle.wg_stream.specs.Prefix.{PagesRead, AreSound, RecordsStand, IsOneMore}
+use Rattle.wg_stream.specs.Prefix.{PagesRead, AreSound, RecordsStand}
 
 -- a record more after no record
 first_page : (p : Parameters) (bits : List Bool) (first last : List Whole) (at mid : ℕ) (w : Whole) → last ≡ first → mid ≡ at
@@ -90,10 +90,6 @@ module _ (p : Parameters) (bits : List Bool) where
     h.records,
     (omega (arith, h.count), subst (λ (c : Context). ReadsRecord p c bits at (Err e)) (next_context pages arcs at kept behind h) reads),
   )
-
--- the same end by another name
-pub one_more_to : (bits : List Bool) (r : PagesRead) (a b : ℕ) (behind : List Whole) → a ≡ b → IsOneMore bits r a behind → IsOneMore bits r b behind
-one_more_to bits r a b behind same h = subst (λ (n : ℕ). IsOneMore bits r n behind) same h
 
 -- ---- the lists that are held stay short
 -- what is kept with one list more, whether or not a list has left

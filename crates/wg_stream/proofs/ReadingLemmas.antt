@@ -1,33 +1,25 @@
 -- A reading that goes on.
-use Rattle.std.proofs.Common.{◌≡◌, ◌∙◌, ℕ, ◌+◌, ◌/◌, ◌≤◌, List, ◌∷◌, Bool, true, false, Some, None, Result, Ok, Err, length, refl, sym, ap, subst, arith}
+use Rattle.std.proofs.Common.{◌≡◌, ◌∙◌, ℕ, ◌≤◌, List, ◌∷◌, Bool, true, false, Some, None, Result, Ok, Err, length, refl, sym, ap, subst, arith}
 use Rattle.std.specs.Bool.{IsTrue}
 use Rattle.std.specs.FinMap as map
 use Rattle.wg_outside.specs.Outside.{Files, Counts}
 use Rattle.wg_outside.specs.declared.limits.TheConstants.{MOST_BYTES}
-use Rattle.wg_params.specs.Parameters.{Parameters}
 use Rattle.wg_grammar.specs.Archive.{ReadsGraph, lists_of, places_of}
 use Rattle.wg_bits.specs.Bits.{bits_of}
 use Rattle.wg_grammar.specs.Record.{Whole}
 use Rattle.wg_stream.specs.declared.state.State.{State}
 use Rattle.wg_stream.specs.declared.state.State.TheVariants.{Open, Done, Closed}
 use Rattle.wg_stream.specs.declared.first.First.{First}
-use Rattle.wg_stream.specs.declared.first.First.TheVariants as first
-use Rattle.wg_stream.specs.declared.stream_error.StreamError.{StreamError}
-use Rattle.wg_stream.specs.declared.stream_error.StreamError.TheVariants as errors
 use Rattle.wg_stream.specs.declared.error.PagesError.{PagesError}
-use Rattle.wg_stream.specs.declared.error.PagesError.TheVariants.{Refused}
 use Rattle.wg_stream.specs.Errors.{OfFault, OfRefusal}
-use Rattle.wg_stream.specs.FirstError.{of_first, OfOutside, Says}
+use Rattle.wg_stream.specs.FirstError.{Says}
 use Rattle.wg_outside.specs.declared.whole.LoadError.{LoadError}
-use Rattle.wg_outside.specs.declared.whole.LoadError.TheVariants as load
-use Rattle.wg_source.specs.declared.stretch.TheConstants.{MOST_HELD}
-use Rattle.wg_source.specs.Held.{HeldBytes, IsHeldOf, IsSmall}
+use Rattle.wg_source.specs.Held.{HeldBytes, IsHeldOf}
 use Rattle.wg_source.specs.Stepping.{Steps, HasCause}
 use Rattle.wg_source.specs.StepLaws.{later_cause, still_there, two_steps}
 use Rattle.wg_stream.specs.Prefix.{PagesRead, AreBehind, HoldsFew, IsOneMore}
 use Rattle.wg_stream.specs.Reading.{Reading, AgreesIn, Goes, IsInStep, IsJudged, IsSteady, Stands, StaysInStep}
 use Rattle.wg_stream.proofs.ErrorLemmas.{fault_weaker, refusal_weaker}
-use Rattle.wg_stream.proofs.FirstErrorLemmas.{says_graph, says_one, says_outside}
 
 -- what an open reading that is in step knows of the file: what it holds, and the records up to the next bit and up to
 -- the end of the last
@@ -37,73 +29,6 @@ reads_of file r whole is stands s =
     let a = subst (λ (x : State). AgreesIn x file r whole) is s in
     let here = subst (Stands r) is stands in
     (a.held, subst (λ (n : ℕ). AreBehind (bits_of file) r.pages n whole) (sym here) a.records, a.records)
-
--- one state is no other
-pub open_done : (s : State) → s ≡ Open → s ≡ Done → ⊥
-open_done s is other = absurd (cc (is, other))
-
-pub open_closed : (s : State) (e : First) → s ≡ Open → s ≡ Closed e → ⊥
-open_closed s e is other = absurd (cc (is, other))
-
-pub done_closed : (s : State) (e : First) → s ≡ Done → s ≡ Closed e → ⊥
-done_closed s e is other = absurd (cc (is, other))
-
-pub told_again : (s : State) (e f : First) → s ≡ Closed e → s ≡ Closed f → ◌≡◌ {A = Result Bool StreamError} (Err (errors.Closed e)) (Err (errors.Closed f))
-told_again s e f is other = cc (is, other)
-
--- what is held ends soon after the next bit
-pub near_of : (h : HeldBytes) (at : ℕ) → IsSmall h → at ≡ h.at → h.first + length h.bytes ≤ at / 8 + MOST_HELD
-near_of h at s is = omega (arith, s.few, s.from, is)
-
-pub onward_of : (r : Reading) (n at : ℕ) → r.state ≡ Open → Stands r r.state → r.held.at ≤ n → at ≡ n → r.at ≤ at
-onward_of r n at is stands on same =
-    let here : r.held.at ≡ r.at = subst (Stands r) is stands in
-    omega (arith, here, on, same)
-
-pub not_before : (n : ℕ) → n ≤ n
-not_before n = omega arith
-
--- the error that the first one is reported as tells which it is
-abbrev told_first : StreamError → First
-told_first (errors.Fault f) = first.Fault f
-told_first (errors.Tail offset) = first.Tail offset
-told_first (errors.ArcsShort total) = first.ArcsShort total
-told_first errors.Failed = first.Failed
-told_first errors.Absent = first.Absent
-told_first errors.TooLong = first.TooLong
-told_first errors.Memory = first.Memory
-told_first (errors.Closed e) = e
-
-told_as : (e : First) → told_first (of_first e) ≡ e
-told_as (first.Fault f) = refl
-told_as (first.Tail offset) = refl
-told_as (first.ArcsShort total) = refl
-told_as first.Failed = refl
-told_as first.Absent = refl
-told_as first.TooLong = refl
-told_as first.Memory = refl
-
--- it is reported as the error that closed the reading
-module _ (told : Bool) (files files' : Files) (counts counts' : List ℕ → Counts) (old new : Reading) (x : PagesError LoadError) (g : Goes told files files' counts counts' old new (Err x)) (e : First) (says : Says x e) (r : StreamError) (is : r ≡ of_first e) where
-  pub told_err : (f : First) × (r ≡ of_first f) × (new.state ≡ Closed f)
-  told_err = (g.closed.0, is ∙ ap of_first (says_one x e g.closed.0 says g.closed.1), g.closed.2)
-
-  pub told_absent : IsTrue told → map.get files old.name ≡ None → old.held.looked ≡ false → ◌≡◌ {A = Result Bool StreamError} (Err r) (Err errors.Absent)
-  told_absent t none fresh =
-      let one : x ≡ Refused load.Absent = (let same = g.absent t none fresh in cc) in
-      ap (λ (y : StreamError). Err y) (is ∙ ap of_first (subst (λ (y : PagesError LoadError). Says y e) one says))
-
-  pub told_cause : (f : First) → ◌≡◌ {A = Result Bool StreamError} (Err r) (Err (of_first f)) → OfOutside f (HasCause told old.name files counts counts' old.held)
-  told_cause f same =
-      let one : r ≡ of_first f = cc same in
-      subst (λ (y : First). OfOutside y (HasCause told old.name files counts counts' old.held)) (sym (told_as e) ∙ ap told_first (sym is ∙ one) ∙ told_as f)
-          (says_outside x e (HasCause told old.name files counts counts' old.held) says g.cause)
-
-  pub told_in_step : IsTrue told → (file : List ℕ) → map.get files old.name ≡ Some file → (whole : List Whole) → IsInStep file old whole → IsInStep file new whole
-  told_in_step t file there whole s =
-      subst (λ (y : State). AgreesIn y file new whole) (sym g.closed.2)
-      (says_graph x g.closed.0 (λ f. IsJudged file new.pages.params (Err f)) g.closed.1
-      (subst (λ (p : Parameters). OfFault x (λ f. IsJudged file p (Err f))) (sym g.params) (g.fault t file there whole s)))
 
 -- ---- a step of an open reading: a look at the file, and then a record of it or its end
 module _ (told : Bool) (files files1 files2 : Files) (counts counts1 counts2 : List ℕ → Counts) (r : Reading) (v : IsSteady r) (going : r.state ≡ Open) (h1 h2 : HeldBytes) (looked : h1 ≡ record r.held { looked = true })
