@@ -23,7 +23,7 @@ use Rattle.wg_stream.specs.Errors.{OfRefusal}
 use Rattle.wg_stream.specs.FirstError.{Says}
 use Rattle.wg_stream.specs.Reading.{Reading, AgreesIn, Goes, IsInStep, IsJudged}
 use Rattle.wg_stream.proofs.ErrorLemmas.{no_err}
-use Rattle.wg_outcomes.specs.Answers.{Answers}
+use Rattle.wg_outcomes.specs.Answers.{Answers, Steps}
 use Rattle.wg_outcomes.specs.Causes.{HasCause}
 use Rattle.wg_outcomes.specs.Judged.{Judged, refused, status_of, with_file, with_graph}
 use Rattle.wg_outcomes.specs.Names.{no_outputs}
@@ -111,8 +111,9 @@ module _ (told : Bool) (files files' : Files) (counts counts' : List ℕ → Cou
         only = only_at p.arcs x g.closed.0 g.closed.1;
         causes = cause_at told a.name files counts counts' a.held p.arcs x g.cause;
         there = λ t held is found. tt;
-        refused = λ t limits held is found follows r.
-            refuses t limits (subst (λ (f : Files). IsFound f a) (sym is) found) (subst (λ (f : Files). FollowsFile f a) (sym is) follows) r x g;
+        refused = λ t limits held here found follows r.
+            subst (λ (f : Files). Steps {B = Accepted} (graph_then r p (map.get f a.name)) (Err (ending_at p.arcs x))) here
+            (refuses t limits (subst (λ (f : Files). IsFound f a) (sym here) found) (subst (λ (f : Files). FollowsFile f a) (sym here) follows) r x g);
       })
 
   pub advances : Goes told files files' counts counts' a b (Ok tt) → Advances {B = Unit {0}} told files files' counts counts' p a b (Ok tt)
