@@ -1,9 +1,7 @@
 -- A graph file that is read in pieces, in a validation.
-use Rattle.std.proofs.Common.{◌≡◌, inl, inr, ℕ, ◌<◌, Bool, true, false, List, nat_lt, length, refl, sym, ◌∙◌, ap, subst, Option, Some, None, Result, Ok, Err}
+use Rattle.std.proofs.Common.{◌≡◌, inl, inr, ℕ, Bool, true, false, List, refl, sym, ◌∙◌, ap, subst, Option, Some, None, Result, Ok, Err}
 use Rattle.std.specs.Bool.{IsTrue}
 use Rattle.std.specs.FinMap as map
-use Rattle.std.proofs.lemmas.Bool.{cond-true, lt-ltb}
-use Rattle.wg_outside.specs.declared.limits.TheConstants.{MOST_BYTES}
 use Rattle.wg_outside.specs.Outside.{Files, Counts}
 use Rattle.wg_outside.specs.declared.whole.LoadError.{LoadError}
 use Rattle.wg_outside.specs.declared.whole.LoadError.TheVariants as load
@@ -11,8 +9,7 @@ use Rattle.wg_params.specs.Parameters.{Parameters, IsWithinLimits}
 use Rattle.wg_grammar.specs.declared.fault.ArchiveFault.{ArchiveFault}
 use Rattle.wg_grammar.specs.declared.fault.ArchiveFault.TheVariants as archive
 use Rattle.wg_grammar.specs.Archive.{Accepted}
-use Rattle.wg_grammar.specs.Record.{Whole}
-use Rattle.wg_source.specs.Held.{HeldBytes, IsHeldOf}
+use Rattle.wg_source.specs.Held.{HeldBytes}
 use Rattle.wg_source.specs.Stepping.{HasCause as HasReadCause}
 use Rattle.wg_stream.specs.declared.error.PagesError.{PagesError}
 use Rattle.wg_stream.specs.declared.error.PagesError.TheVariants as pages
@@ -21,18 +18,18 @@ use Rattle.wg_stream.specs.declared.state.State.{State}
 use Rattle.wg_stream.specs.declared.state.State.TheVariants.{Open}
 use Rattle.wg_stream.specs.Errors.{OfRefusal}
 use Rattle.wg_stream.specs.FirstError.{Says}
-use Rattle.wg_stream.specs.Reading.{Reading, AgreesIn, Goes, IsInStep, IsJudged}
+use Rattle.wg_stream.specs.Reading.{Reading, AgreesIn, Goes, IsJudged}
 use Rattle.wg_stream.proofs.ErrorLemmas.{no_err}
 use Rattle.wg_outcomes.specs.Answers.{Answers, Steps}
 use Rattle.wg_outcomes.specs.Causes.{HasCause}
-use Rattle.wg_outcomes.specs.Judged.{Judged, refused, status_of, with_file, with_graph}
+use Rattle.wg_outcomes.specs.Judged.{Judged, status_of, with_graph}
 use Rattle.wg_outcomes.specs.Names.{no_outputs}
 use Rattle.wg_outcomes.specs.Promised.{IsStopAt}
 use Rattle.wg_outcomes.specs.Readings.{Readings}
 use Rattle.wg_outcomes.specs.declared.ending.Ending.{Ending}
 use Rattle.wg_outcomes.specs.declared.status.Input.{Input}
 use Rattle.wg_outcomes.specs.declared.status.Input.TheVariants.{Graph}
-use Rattle.wg_outcomes.specs.declared.status.Status.TheVariants.{BadArchive, Done, Memory, OverLimit}
+use Rattle.wg_outcomes.specs.declared.status.Status.TheVariants.{BadArchive, Done, Memory}
 pub use Rattle.wg_outcomes.proofs.FileLemmas.{file_goes}
 use Rattle.wg_outcomes.proofs.FileLemmas.{held_goes}
 use Rattle.wg_outcomes.proofs.Statuses.{own_caused}

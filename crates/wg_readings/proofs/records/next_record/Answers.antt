@@ -1,7 +1,6 @@
 use Rattle.std.proofs.Common.{◌∙◌, ap, sym}
 use Rattle.std.specs.FinMap as map
 use Rattle.wg_outside.specs.Outside.{Files}
-use Rattle.wg_params.specs.Parameters.{Parameters}
 use Rattle.wg_readings.proofs.PassLemmas.{advances, stops}
 use Rattle.wg_readings.proofs.records.next_record.Goals as goal
 
