@@ -197,56 +197,6 @@ impl Reader {
         }
     }
 
-    // Reads the record that comes next, or checks the end, if there is none; from then on, and after an error, it
-    // reads nothing.
-    fn advance<D: Depot>(&mut self, depot: &mut D) -> Result<bool, StreamError>
-        ensures done { self.old.state ≡ Done → (result ≡ Ok false) × (self.new ≡ self.old) × (depot.new ≡ depot.old) }
-        ensures closed { (e : First) → self.old.state ≡ Closed e → (result ≡ Err (errors.Closed e))
-            × (self.new ≡ self.old) × (depot.new ≡ depot.old) }
-        ensures err { self.old.state ≡ Open → IfErr result (λ e. (f : First) × (e ≡ of_first f)
-            × (self.new.state ≡ Closed f)) }
-        ensures params { self.new.pages.params ≡ self.old.pages.params }
-        ensures name { self.new.name ≡ self.old.name }
-        ensures onward { self.old.at ≤ self.new.at }
-        ensures more { result ≡ Ok true → (self.new.state ≡ Open) × (self.new.held.looked ≡ true)
-            × (self.new.pages.page ≡ self.old.pages.page + 1)
-            × (self.new.pages.page ≤ self.new.pages.params.nodes)
-            × (self.new.pages.arcs ≡ self.old.pages.arcs + length self.new.pages.list) }
-        ensures end { result ≡ Ok false → (self.new.state ≡ Done) × (self.new.pages ≡ self.old.pages)
-            × (self.new.pages.page ≡ self.new.pages.params.nodes) × (self.new.pages.arcs ≡ self.new.pages.params.arcs) }
-        ensures absent { IsTrue D.told → map.get (D.files depot.old) self.old.name ≡ None → self.old.state ≡ Open
-            → self.old.held.looked ≡ false → result ≡ Err errors.Absent }
-        ensures cause { self.old.state ≡ Open → (f : First) → result ≡ Err (of_first f)
-            → OfOutside f (HasCause D.told self.old.name (D.files depot.old) (D.counts depot.old) (D.counts depot.new)
-            self.old.held) }
-        ensures same { D.files depot.new ≡ D.files depot.old }
-        ensures later { NonDecreasing (D.counts depot.old) (D.counts depot.new) }
-        ensures in_step { IsTrue D.told → (file : ListOf ℕ) → map.get (D.files depot.old) self.old.name ≡ Some file
-            → (whole : ListOf Whole) → IsInStep file self.old whole
-            → StaysInStep file self.new whole result }
-        ensures few { HoldsFew self.new.pages }
-        ensures small { length self.new.held.bytes ≤ MOST_HELD }
-        ensures near { result ≡ Ok true → self.new.held.first + length self.new.held.bytes
-            ≤ self.new.at / 8 + MOST_HELD }
-    {
-        match self.state {
-            State::Closed(first) => Err(StreamError::Closed(first)),
-            State::Done => Ok(false),
-            State::Open => {
-                if self.pages.is_done() {
-                    return match self.finish(depot) {
-                        Ok(()) => Ok(false),
-                        Err(error) => Err(StreamError::from(first_of(error))),
-                    };
-                }
-                match self.next_record(depot) {
-                    Ok(()) => Ok(true),
-                    Err(error) => Err(StreamError::from(first_of(error))),
-                }
-            }
-        }
-    }
-
     /// Lends the list of the page that comes next, or none, once all lists were lent and the end is right.
     pub fn next<D: Depot>(&mut self, depot: &mut D) -> Result<Option<&[u64]>, StreamError>
         ensures ascends { IfOk result (λ o. IfSome o (λ s. Ascends 0 s.now)) }
@@ -270,9 +220,20 @@ impl Reader {
             IfOk result (λ o. MatchOption o (IsInStep file after whole) (λ s. HasRead file after whole s.now))
             × IfErr result (λ e. IsInStep file after whole)))) }
     {
-        if self.advance(depot)? {
-            return Ok(Some(self.list()));
+        match self.state {
+            State::Closed(first) => return Err(StreamError::Closed(first)),
+            State::Done => return Ok(None),
+            State::Open => {}
         }
-        Ok(None)
+        if self.pages.is_done() {
+            return match self.finish(depot) {
+                Ok(()) => Ok(None),
+                Err(error) => Err(StreamError::from(first_of(error))),
+            };
+        }
+        match self.next_record(depot) {
+            Ok(()) => Ok(Some(self.list())),
+            Err(error) => Err(StreamError::from(first_of(error))),
+        }
     }
 }
