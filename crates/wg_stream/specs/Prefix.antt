@@ -26,7 +26,8 @@ pub record AreShort (most : ℕ) (behind : List Known) (waiting : SpareLengths) 
   pub spares : NoneLonger most waiting
   pub past : length_past ≤ most
 
--- of the pages before no more lists are kept than the window has; and no list that is held is longer than there are pages
+-- of the pages before no more lists are kept than the window has; and no list that is held is longer than there are
+-- pages
 pub record HoldsFew (r : PagesRead) : Type 0 where
   pub near : length r.kept ≤ r.params.window
   pub short : AreShort r.params.nodes r.kept r.spares r.past

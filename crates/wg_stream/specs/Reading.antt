@@ -90,4 +90,5 @@ pub record Goes (told : Bool) (files files' : Files) (counts counts' : List ℕ 
       → IsInStep file old whole → OnFault result (λ f. IsJudged file old.pages.params (Err f))
   pub cause : OnRefusal result (HasCause told old.name files counts counts' old.held)
   -- a file that is not there is missed at the first step
-  pub absent : IsTrue told → map.get files old.name ≡ None → old.held.looked ≡ false → result ≡ Err (Refused load.Absent)
+  pub absent : IsTrue told → map.get files old.name ≡ None → old.held.looked ≡ false
+      → result ≡ Err (Refused load.Absent)

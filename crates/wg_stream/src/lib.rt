@@ -5,8 +5,9 @@
 //! the lists; whoever reads an archive in another way writes a loop of its own.
 //!
 //! [`Reader`] lends the lists of a graph file of a depot, which need not fit into memory. It owns a [`Pages`] and a
-//! `Stretch` of `wg_source`, the bytes that are held; a `FileSource` over these is the source of its words. It has the two
-//! verbs of [`Pages`], with the same errors; its `next` goes on from one to the other, and names the first error again.
+//! `Stretch` of `wg_source`, the bytes that are held; a `FileSource` over these is the source of its words. It has the
+//! two verbs of [`Pages`], with the same errors; its `next` goes on from one to the other, and names the first error
+//! again.
 //!
 //! ```text
 //! file in pieces --> Stretch --> FileSource --> Pages::next --> the list of the page --> kept, printed, counted
@@ -38,8 +39,8 @@
 //! Memory is held for the lists of the window, each with room for at most twice its numbers, and for a few lists more
 //! while a record is read. A stretch is one piece of 4096 bytes; no bytes of a record are kept, however long it is.
 //! That a [`Reader`] keeps no more lists than the window has, that neither these nor the five whose memory serves for
-//! later lists are ever longer than there are pages, and that it holds at most [`MOST_HELD`](wg_source::MOST_HELD) bytes,
-//! is said by clauses of its calls.
+//! later lists are ever longer than there are pages, and that it holds at most [`MOST_HELD`](wg_source::MOST_HELD)
+//! bytes, is said by clauses of its calls.
 //!
 //! Of a source that cannot tell its bits it is still known that each list ascends, that its numbers are pages, and that
 //! all lists together have no more numbers than arcs are promised.

@@ -24,9 +24,9 @@ use wg_params::Params;
 ///
 /// It is seen as its parameters, how many pages and arcs were read, what is kept of the pages before, the list of the
 /// page that was read last, and how long the lists are whose memory serves for later ones. It keeps no more lists than
-/// the window of the parameters has, each with room for at most twice its numbers, or for few; three lists with room for
-/// as many as the longest; and two that have left the window. None of these is ever longer than there are pages, however
-/// many are read ([`next`](Pages::next)). Pass the same source to every call: the clauses on bits assume it.
+/// the window of the parameters has, each with room for at most twice its numbers, or for few; three lists with room
+/// for as many as the longest; and two that have left the window. None of these is ever longer than there are pages,
+/// however many are read ([`next`](Pages::next)). Pass the same source to every call: the clauses on bits assume it.
 #[derive(Debug)]
 pub struct Pages {
     params: Params,
@@ -130,7 +130,8 @@ impl Pages {
     }
 
     /// Reads the record of the page that comes next, and goes on to the one after it. If it is refused, it stays at
-    /// this page. Whatever the answer, no list that it holds is longer than there are pages. It takes time in proportion to the words of the record, to its list and to the one that it refers to.
+    /// this page. Whatever the answer, no list that it holds is longer than there are pages. It takes time in
+    /// proportion to the words of the record, to its list and to the one that it refers to.
     pub fn next<S: Source>(&mut self, source: &mut S) -> Result<(), PagesError<S::Refusal>>
         requires more { self.old.page < self.old.params.nodes }
         ensures params { self.new.params ≡ self.old.params }

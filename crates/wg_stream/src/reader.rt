@@ -30,8 +30,9 @@ use wg_source::{FileSource, Stretch};
 ///
 /// It keeps no more lists of the pages before than the window of the parameters has, the list that it lends, and five
 /// lists more, whose memory is used again, so that few records take any of their own. None of them is ever longer than
-/// there are pages. Of the file it holds at most [`MOST_HELD`](wg_source::MOST_HELD) bytes, however long a record is: behind the record of a list that it has lent it
-/// has read no further than that. All this holds after each call, after an error too, and whatever the depot answers.
+/// there are pages. Of the file it holds at most [`MOST_HELD`](wg_source::MOST_HELD) bytes, however long a record is:
+/// behind the record of a list that it has lent it has read no further than that. All this holds after each call, after
+/// an error too, and whatever the depot answers.
 #[derive(Debug)]
 pub struct Reader {
     pages: Pages,
@@ -147,7 +148,8 @@ impl Reader {
         ensures arcs { OnOk result (self.new.pages.arcs ≡ self.old.pages.arcs + length self.new.pages.list) }
         ensures near { OnOk result (self.new.held.first + length self.new.held.bytes ≤ self.new.at / 8 + MOST_HELD) }
         ensures in_step { IsTrue D.told → (file : ListOf ℕ) → map.get (D.files depot.old) self.old.name ≡ Some file
-            → (whole : ListOf Whole) → IsInStep file self.old whole → OnOk result (StaysInStep file self.new whole (Ok true)) }
+            → (whole : ListOf Whole) → IsInStep file self.old whole
+            → OnOk result (StaysInStep file self.new whole (Ok true)) }
     {
         if let Err(error) = self.held.look(depot, self.name.as_str()) {
             self.state = closed_by(PagesError::Refused(error));
