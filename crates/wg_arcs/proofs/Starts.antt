@@ -4,7 +4,6 @@ use Rattle.std.specs.Int.{w32, from_le_bytes}
 use Rattle.std.proofs.lemmas.Bool.{cases_lt}
 use Rattle.wg_arcs.proofs.LineLemmas.{same_more, same_front}
 
-
 -- four bytes that make one number are the same
 same_bytes : (a b c d p q r s : ℕ) → a < 256 → b < 256 → c < 256 → d < 256 → p < 256 → q < 256 → r < 256 → s < 256
     → a + b * 256 + c * 65536 + d * 16777216 ≡ p + q * 256 + r * 65536 + s * 16777216
@@ -23,7 +22,9 @@ pub same_at : (text other : List ℕ) (at n m : ℕ) → ((k : ℕ) → get_or t
     → m ≡ from_le_bytes w32 (get_or other at 0 ∷ get_or other (at + 1) 0 ∷ get_or other (at + 2) 0 ∷ get_or other (at + 3) 0 ∷ [])
     → n ≡ m → (i : ℕ) → i < 4 → get_or text (at + i) 0 ≡ get_or other (at + i) 0
 same_at text other at n m small low here there same =
-    let all = same_bytes _ _ _ _ _ _ _ _ (small at) (small (at + 1)) (small (at + 2)) (small (at + 3)) (low at) (low (at + 1)) (low (at + 2)) (low (at + 3)) (sym here ∙ same ∙ there) in
+    let all =
+    same_bytes _ _ _ _ _ _ _ _ (small at) (small (at + 1)) (small (at + 2)) (small (at + 3)) (low at) (low (at + 1))
+    (low (at + 2)) (low (at + 3)) (sym here ∙ same ∙ there) in
     let z : at + 0 ≡ at = omega arith in
     any_of_four (λ i. get_or text (at + i) 0 ≡ get_or other (at + i) 0) (rw z all.0) all.1 all.2 all.3
 
@@ -34,9 +35,6 @@ pub begins : (text front : List ℕ) → 4 ≤ length front → length front ≤
     → text ≡ front ++ drop (length front) text
 begins text front some few long first last = same_front text front (length front) (up_to (length front) (omega arith)) (omega arith) (omega arith)
   where
-    n : ℕ
-    n = length front
-
     byte : (i : ℕ) → i < length front → get_or text i 0 ≡ get_or front i 0
     byte i h =
         ⊎_elim

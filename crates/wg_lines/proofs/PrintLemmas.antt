@@ -113,6 +113,8 @@ line_stored size a n m most old first start digits whole fits room few there eno
     let front : take (a + n) first ≡ take a old ++ take n start =
     sym (take-take (a + n) (a + most) first (omega (arith, few))) ∙ ap (take (a + n)) is
     ∙ ap (λ (k : ℕ). take (k + n) (take a old ++ start)) (sym (length-take-le a old there)) ∙ take-append-add (take a old) start n in
-    rw (take-set_at second (a + n + m) (a + n + m + 1) 10 (omega arith) (omega (arith, two, room)), stored_front (a + n) (size - (a + n)) m first digits (omega (arith, whole, room)) least, front)
+    let end = take-set_at second (a + n + m) (a + n + m + 1) 10 (omega arith) (omega (arith, two, room)) in
+    let number = stored_front (a + n) (size - (a + n)) m first digits (omega (arith, whole, room)) least in
+    rw (end, number, front)
     (ap (λ (l : List ℕ). l ++ 10 ∷ []) (append_assoc (take a old) (take n start) (take m digits))
     ∙ append_assoc (take a old) (take n start ++ take m digits) (10 ∷ []))

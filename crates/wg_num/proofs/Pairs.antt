@@ -14,7 +14,9 @@ pair_at = PAIRS_at
 pub pair_stored : (buf : List ℕ) (at p tens ones : ℕ) → at + 2 ≤ length buf → tens ≡ 48 + p / 10 → ones ≡ 48 + p % 10
     → take (at + 2) (set (set buf at tens) (at + 1) ones) ≡ take at buf ++ pair_digits p
 pair_stored buf at p tens ones room t o =
-    rw (take-set_at (set buf at tens) (at + 1) (at + 2) ones (omega arith) (omega (arith, length-set buf at tens, room)), take-set_at buf at (at + 1) tens (omega arith) (omega (arith, room)), append_assoc, t, o)
+    let second = take-set_at (set buf at tens) (at + 1) (at + 2) ones (omega arith) (omega (arith, length-set buf at tens, room)) in
+    let first = take-set_at buf at (at + 1) tens (omega arith) (omega (arith, room)) in
+    rw (second, first, append_assoc, t, o)
 
 -- a number, and two or four digits more
 pub two_more : (v n : ℕ) (old new : List ℕ) → 100 ≤ v → v < 2 ^ 64 → take n old ≡ decimal (v / 100)
