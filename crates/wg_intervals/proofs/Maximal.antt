@@ -41,8 +41,7 @@ filter_none p a (suc k) h = rw (h a (omega arith) (omega arith)) (filter_none p 
 
 filter_same : (p q : ℕ → Bool) (a : ℕ) (zs : List ℕ) → Ascends a zs → ((y : ℕ) → a ≤ y → p y ≡ q y) → filter p zs ≡ filter q zs
 filter_same p q a [] up same = refl
-filter_same p q a (z ∷ zs) up same =
-    rw ((same z up.0), (filter_same p q (suc z) zs up.1 (λ y low. same y (omega (arith, up.0))))) refl
+filter_same p q a (z ∷ zs) up same = rw ((same z up.0), (filter_same p q (suc z) zs up.1 (λ y low. same y (omega (arith, up.0))))) refl
 
 -- ---- the first of the maximal runs
 

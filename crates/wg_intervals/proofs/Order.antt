@@ -11,8 +11,7 @@ ascends_from n m (x ∷ xs) le a = let first = a.0 in (omega (arith, le, first),
 
 pub range_ascends : (n l k : ℕ) (xs : List ℕ) → n ≤ l → Ascends (l + k) xs → Ascends n (range_with_len l k ++ xs)
 range_ascends n l zero xs le a = ascends_from n (l + 0) xs (omega (arith, le)) a
-range_ascends n l (suc k) xs le a =
-    (le, range_ascends (suc l) (l + 1) k xs (omega arith) (subst (λ (j : ℕ). Ascends j xs) (omega arith) a))
+range_ascends n l (suc k) xs le a = (le, range_ascends (suc l) (l + 1) k xs (omega arith) (subst (λ (j : ℕ). Ascends j xs) (omega arith) a))
 
 number_in : Option ℕ → ℕ
 number_in None = 0

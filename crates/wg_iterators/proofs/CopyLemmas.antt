@@ -12,5 +12,4 @@ shifted f g k (x ∷ xs) on = rw (on k, shifted f g (k + 1) xs on) refl
 pub member_next : (m new : List ℕ) {b : Bool} (x : ℕ) {copied : List ℕ} (old xs : List ℕ) → copied ≡ copied_of m old → old ≡ x ∷ xs
     → b ≡ is_copied m 0 → ((q : ℕ) → is_copied new q ≡ is_copied m (q + 1))
     → copied ≡ cond b (x ∷ copied_of new xs) (copied_of new xs)
-member_next m new {b} x {copied} old xs same is here on =
-    same ∙ ap (copied_of m) is ∙ rw (here, ← shifted (is_copied m) (is_copied new) 0 xs on) refl
+member_next m new {b} x {copied} old xs same is here on = same ∙ ap (copied_of m) is ∙ rw (here, ← shifted (is_copied m) (is_copied new) 0 xs on) refl

@@ -24,12 +24,9 @@ past x (Some y) h ys is le out up =
 
 -- once this front has given its number: it came first in the union, and no number is in two fronts
 abbrev pub Given : Front → List ℕ → Head → Head → Head → List ℕ → List ℕ → List ℕ → Type 0
-Given (Copied x) union ha hb hc xs ys zs =
-    (union ≡ x ∷ union_of xs (union_of (ahead hb ys) (ahead hc zs))) × AreApart xs (ahead hb ys) (ahead hc zs)
-Given (Inside x) union ha hb hc xs ys zs =
-    (union ≡ x ∷ union_of (ahead ha xs) (union_of ys (ahead hc zs))) × AreApart (ahead ha xs) ys (ahead hc zs)
-Given (Residual x) union ha hb hc xs ys zs =
-    (union ≡ x ∷ union_of (ahead ha xs) (union_of (ahead hb ys) zs)) × AreApart (ahead ha xs) (ahead hb ys) zs
+Given (Copied x) union ha hb hc xs ys zs = (union ≡ x ∷ union_of xs (union_of (ahead hb ys) (ahead hc zs))) × AreApart xs (ahead hb ys) (ahead hc zs)
+Given (Inside x) union ha hb hc xs ys zs = (union ≡ x ∷ union_of (ahead ha xs) (union_of ys (ahead hc zs))) × AreApart (ahead ha xs) ys (ahead hc zs)
+Given (Residual x) union ha hb hc xs ys zs = (union ≡ x ∷ union_of (ahead ha xs) (union_of (ahead hb ys) zs)) × AreApart (ahead ha xs) (ahead hb ys) zs
 
 -- the three heads were read, and this is the least of them
 pub next_given : {oa ob oc : List ℕ} {ha hb hc : Head} (a b c : Option ℕ) (xs ys zs : List ℕ) (f : Front)
