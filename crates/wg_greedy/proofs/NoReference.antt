@@ -84,8 +84,7 @@ cut_low n m (r ∷ rs) xs cut low =
 
 pub cut_few : (n m : ℕ) (rs : List Run) (xs : List ℕ) → Cut m rs xs → Low n rs → length rs ≤ n - m
 cut_few n m [] xs cut low = omega arith
-cut_few n m (r ∷ rs) xs cut low =
-    omega (arith, (cut_few n (r.left + r.length + 1) rs cut.2 cut.4 low.2), cut.0, cut.1, low.1)
+cut_few n m (r ∷ rs) xs cut low = omega (arith, (cut_few n (r.left + r.length + 1) rs cut.2 cut.4 low.2), cut.0, cut.1, low.1)
 
 low_where : (n : ℕ) (t : Run → Bool) (rs : List Run) → Low n rs → Low n (filter t rs)
 low_where n t [] low = tt

@@ -230,8 +230,7 @@ pub canonical_proper : (p : Parameters) (c : Context) (list : List ℕ) (r : ℕ
     → All (λ (k : Known). IsList p k.list) c.behind → IsList p list → c.arcs_before + length list ≤ p.arcs → is_candidate p c list r ≡ true
     → ReadsRecord p c (before ++ (bits_of_fields (canonical p c list r) ++ rest)) (length before) (proper list (depth_of c.behind (reference_of list r)) (length before + size_of p c list r))
 unfolding record_fields
-canonical_proper p c [] r before rest limits here behind is total may =
-    empty_read p c before rest total (candidate_is p c [] r limits here is may).words
+canonical_proper p c [] r before rest limits here behind is total may = empty_read p c before rest total (candidate_is p c [] r limits here is may).words
 canonical_proper p c (y ∷ ys) r before rest limits here behind is total may =
     let list : List ℕ = y ∷ ys in
     let asked : List ℕ = referenced c.behind r in
