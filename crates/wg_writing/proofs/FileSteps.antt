@@ -26,6 +26,10 @@ use Rattle.wg_outcomes.proofs.BuildLemmas.{others_twice}
 use Rattle.wg_writing.specs.Writing.{WritesFiles, names_of, whole}
 use Rattle.wg_writing.specs.declared.writing.FileNames.{FileNames}
 
+-- what a step answers
+abbrev Outcome : Type 0
+Outcome = Result (Unit {0}) Ending
+
 abbrev some : List ℕ → Option (List ℕ)
 some m = Some m
 
@@ -45,7 +49,8 @@ with_part output.Certificate v x = x
 with_part output.Out v x = x
 
 module _ (base : List ℕ) where
-  archive_is : (f : Files) (p g o : Option (List ℕ)) → map.get f (properties_name base) ≡ p → map.get f (graph_name base) ≡ g → map.get f (offsets_name base) ≡ o → archive_in base f ≡ record { properties = p; graph = g; offsets = o }
+  archive_is : (f : Files) (p g o : Option (List ℕ)) → map.get f (properties_name base) ≡ p → map.get f (graph_name base) ≡ g → map.get f (offsets_name base) ≡ o
+      → archive_in base f ≡ record { properties = p; graph = g; offsets = o }
   archive_is f p g o at_p at_g at_o = λ i. record { properties = at_p i; graph = at_g i; offsets = at_o i }
 
   -- a file of the archive has changed, and no other
@@ -77,8 +82,14 @@ module _ (base : List ℕ) where
     MayStand o x = FilesAfter a first x (WriteFault o) × FilesAfter a first x Memory
 
     module _ (o : Output) (m : List ℕ) (named : archive_named base o ≡ Some m) (now : ArchiveFiles) (f h : Files) (b c : List ℕ → Counts) (is_now : IsTrue told → archive_in base f ≡ now) where
-      called : (reached : ArchiveFiles) (r : Result (Unit {0}) Ending) → Touches o m told f h b c r → (IsTrue told → OnOk r (archive_in base h ≡ reached))
-          → (IsTrue told → IfErr r (λ e. MayStand o (archive_in base h))) → WritesFiles a base first reached told f h b c r
+      abbrev Reaches : ArchiveFiles → Outcome → Type 0
+      Reaches x r = WritesFiles a base first x told f h b c r
+
+      abbrev Touched : Outcome → Type 0
+      Touched r = Touches o m told f h b c r
+
+      called : (reached : ArchiveFiles) (r : Outcome) → Touched r → (IsTrue told → OnOk r (archive_in base h ≡ reached))
+          → (IsTrue told → IfErr r (λ e. MayStand o (archive_in base h))) → Reaches reached r
       called reached r t done stopped = record {
         ok = done;
         err = λ told. where_stopped r t.only (stopped told);
@@ -88,40 +99,43 @@ module _ (base : List ℕ) where
         later = t.later;
       }
         where
-          where_stopped : (r : Result (Unit {0}) Ending) → IfErr r (λ e. IsStoppedAt o e.status) → IfErr r (λ e. MayStand o (archive_in base h)) → IfErr r (λ e. FilesAfter a first (archive_in base h) e.status)
+          where_stopped : (r : Outcome) → IfErr r (λ e. IsStoppedAt o e.status) → IfErr r (λ e. MayStand o (archive_in base h)) → IfErr r (λ e. FilesAfter a first (archive_in base h) e.status)
           where_stopped (Ok done) only may = tt
           where_stopped (Err e) only may = by_stop (FilesAfter a first (archive_in base h)) o e.status only may.0 may.1
 
-          why : (r : Result (Unit {0}) Ending) → IfErr r (λ e. IsStoppedAt o e.status) → IfErr r (λ e. IsStopped e.status)
+          why : (r : Outcome) → IfErr r (λ e. IsStoppedAt o e.status) → IfErr r (λ e. IsStopped e.status)
           why (Ok done) only = tt
           why (Err e) only = stopped_at o e.status only
 
-          rose : (r : Result (Unit {0}) Ending) → IfErr r (λ e. IsStoppedAt o e.status) → (status_in r ≡ WriteFault o → IncreasedAt (λ k. k.write_faults) (Some m) b c) → FaultsRose base b c (status_in r)
+          rose : (r : Outcome) → IfErr r (λ e. IsStoppedAt o e.status) → (status_in r ≡ WriteFault o → IncreasedAt (λ k. k.write_faults) (Some m) b c) → FaultsRose base b c (status_in r)
           rose (Ok done) only cause x is = absurd (let no : Done ≡ WriteFault x = is in cc)
           rose (Err e) only cause x is = rose_there (archive_named base) o m named b c e.status only cause x is
 
       -- a file is created
-      pub creates : (r : Result (Unit {0}) Ending) → MayStand o now → (IsTrue told → OnOk r (map.get h m ≡ Some [])) → IfErr r (λ e. h ≡ f) → Touches o m told f h b c r
-          → WritesFiles a base first (with_part o (Some []) now) told f h b c r
-      creates (Ok done) may ok err t = called (with_part o (Some []) now) (Ok done) t (λ told. changed o m (Some []) f h named (t.others told) (ok told) ∙ ap (with_part o (Some [])) (is_now told)) (λ told. tt)
+      pub creates : (r : Outcome) → MayStand o now → (IsTrue told → OnOk r (map.get h m ≡ Some [])) → IfErr r (λ e. h ≡ f) → Touched r
+          → Reaches (with_part o (Some []) now) r
+      creates (Ok done) may ok err t =
+          called (with_part o (Some []) now) (Ok done) t (λ told. changed o m (Some []) f h named (t.others told) (ok told) ∙ ap (with_part o (Some [])) (is_now told)) (λ told. tt)
       creates (Err e) may ok err t =
           called (with_part o (Some []) now) (Err e) t (λ told. tt)
           (λ told. subst (MayStand o) (sym (ap (archive_in base) err ∙ is_now told)) may)
 
       -- or filled, which is empty
-      pub fills : (bytes piece : List ℕ) → piece ≡ bytes → (r : Result (Unit {0}) Ending) → part o now ≡ Some [] → ((k : ℕ) → k < length bytes → MayStand o (with_part o (Some (take k bytes)) now))
-          → (IsTrue told → map.get f m ≡ Some [] → OnOk r (map.get h m ≡ Some piece)) → (IsTrue told → map.get f m ≡ Some [] → IfErr r (λ e. HoldsLess (map.get h m) piece)) → Touches o m told f h b c r
-          → WritesFiles a base first (with_part o (Some bytes) now) told f h b c r
+      pub fills : (bytes piece : List ℕ) → piece ≡ bytes → (r : Outcome) → part o now ≡ Some [] → ((k : ℕ) → k < length bytes → MayStand o (with_part o (Some (take k bytes)) now))
+          → (IsTrue told → map.get f m ≡ Some [] → OnOk r (map.get h m ≡ Some piece)) → (IsTrue told → map.get f m ≡ Some [] → IfErr r (λ e. HoldsLess (map.get h m) piece)) → Touched r
+          → Reaches (with_part o (Some bytes) now) r
       fills bytes piece same r empty may ok err t =
-          by_result r (λ told is. subst (λ (l : List ℕ). OnOk r (map.get h m ≡ Some l)) same (ok told is)) (λ told is. subst (λ (l : List ℕ). IfErr r (λ e. HoldsLess (map.get h m) l)) same (err told is)) t
+          by_result r (λ told is. subst (λ (l : List ℕ). OnOk r (map.get h m ≡ Some l)) same (ok told is))
+            (λ told is. subst (λ (l : List ℕ). IfErr r (λ e. HoldsLess (map.get h m) l)) same (err told is)) t
         where
           there : IsTrue told → map.get f m ≡ Some []
           there told = held o m f named ∙ ap (part o) (is_now told) ∙ empty
 
-          by_result : (r : Result (Unit {0}) Ending) → (IsTrue told → map.get f m ≡ Some [] → OnOk r (map.get h m ≡ Some bytes)) → (IsTrue told → map.get f m ≡ Some [] → IfErr r (λ e. HoldsLess (map.get h m) bytes))
-              → Touches o m told f h b c r → WritesFiles a base first (with_part o (Some bytes) now) told f h b c r
+          by_result : (r : Outcome) → (IsTrue told → map.get f m ≡ Some [] → OnOk r (map.get h m ≡ Some bytes)) → (IsTrue told → map.get f m ≡ Some [] → IfErr r (λ e. HoldsLess (map.get h m) bytes))
+              → Touched r → Reaches (with_part o (Some bytes) now) r
           by_result (Ok done) ok err t =
-              called (with_part o (Some bytes) now) (Ok done) t (λ told. changed o m (Some bytes) f h named (t.others told) (ok told (there told)) ∙ ap (with_part o (Some bytes)) (is_now told)) (λ told. tt)
+              called (with_part o (Some bytes) now) (Ok done) t (λ told. changed o m (Some bytes) f h named (t.others told) (ok told (there told))
+                ∙ ap (with_part o (Some bytes)) (is_now told)) (λ told. tt)
           by_result (Err e) ok err t =
               called (with_part o (Some bytes) now) (Err e) t (λ told. tt)
               (λ told.
@@ -132,7 +146,7 @@ module _ (base : List ℕ) where
 
   module _ (a : Archive) (first : ArchiveFiles) (told : Bool) where
     -- a step that was done, and others after it
-    pub and_then : (x y : ArchiveFiles) (f g h : Files) (b c d : List ℕ → Counts) (r : Result (Unit {0}) Ending) → WritesFiles a base first x told f g b c (Ok tt) → WritesFiles a base first y told g h c d r
+    pub and_then : (x y : ArchiveFiles) (f g h : Files) (b c d : List ℕ → Counts) (r : Outcome) → WritesFiles a base first x told f g b c (Ok tt) → WritesFiles a base first y told g h c d r
         → WritesFiles a base first y told f h b d r
     and_then x y f g h b c d r one two = record {
       ok = two.ok;
@@ -144,10 +158,11 @@ module _ (base : List ℕ) where
     }
 
     -- the exit of a `?`
-    pub writes_exit : (x y : ArchiveFiles) (f h : Files) (b c : List ℕ → Counts) (r : Result (Unit {0}) Ending) (e : Ending) → IsErrAnd r (λ z. z ≡ e) → WritesFiles a base first x told f h b c (Err e)
+    pub writes_exit : (x y : ArchiveFiles) (f h : Files) (b c : List ℕ → Counts) (r : Outcome) (e : Ending) → IsErrAnd r (λ z. z ≡ e) → WritesFiles a base first x told f h b c (Err e)
         → WritesFiles a base first y told f h b c r
     writes_exit x y f h b c r e is w =
-        subst (λ (z : Result (Unit {0}) Ending). WritesFiles a base first y told f h b c z) (sym (is_that_err r e is)) (record { ok = λ t. tt; err = w.err; others = w.others; only = w.only; causes = w.causes; later = w.later })
+        subst (λ (z : Outcome). WritesFiles a base first y told f h b c z) (sym (is_that_err r e is))
+            (record { ok = λ t. tt; err = w.err; others = w.others; only = w.only; causes = w.causes; later = w.later })
 
   -- memory ran out before a file was touched
   pub none_written : (a : Archive) (told : Bool) (y : ArchiveFiles) (f : Files) (b : List ℕ → Counts) (e : Ending) → e.status ≡ Memory → WritesFiles a base (archive_in base f) y told f f b b (Err e)
@@ -161,7 +176,7 @@ module _ (base : List ℕ) where
   }
 
 -- ---- the six steps
-module _ (base : List ℕ) (a : Archive) (n : FileNames) (is : n ≡ names_of base) (first : ArchiveFiles) (told : Bool) (f h : Files) (b c : List ℕ → Counts) (r : Result (Unit {0}) Ending) where
+module _ (base : List ℕ) (a : Archive) (n : FileNames) (is : n ≡ names_of base) (first : ArchiveFiles) (told : Bool) (f h : Files) (b c : List ℕ → Counts) (r : Outcome) where
   abbrev Stand : ArchiveFiles → Type 0
   Stand now = IsTrue told → archive_in base f ≡ now
 
@@ -180,26 +195,30 @@ module _ (base : List ℕ) (a : Archive) (n : FileNames) (is : n ≡ names_of ba
   abbrev Short : List ℕ → List ℕ → Type 0
   Short m bytes = IsTrue told → map.get f m ≡ Some [] → IfErr r (λ e. HoldsLess (map.get h m) bytes)
 
-  pub properties_created : Stand first → Created n.properties → Kept → Touches output.Properties n.properties told f h b c r → Reach (record first { properties = Some [] })
+  abbrev Changes : Output → List ℕ → Type 0
+  Changes o m = Touches o m told f h b c r
+
+  pub properties_created : Stand first → Created n.properties → Kept → Changes output.Properties n.properties → Reach (record first { properties = Some [] })
   properties_created now ok err t =
       creates base a first told output.Properties n.properties (ap (λ (x : FileNames). some x.properties) (sym is)) first f h b c now r (inl refl, inl (inl refl)) ok err t
 
-  pub graph_created : Stand (record first { properties = Some [] }) → Created n.graph → Kept → Touches output.Graph n.graph told f h b c r → Reach (record first { properties = Some []; graph = Some [] })
+  pub graph_created : Stand (record first { properties = Some [] }) → Created n.graph → Kept → Changes output.Graph n.graph → Reach (record first { properties = Some []; graph = Some [] })
   graph_created now ok err t =
       creates base a first told output.Graph n.graph (ap (λ (x : FileNames). some x.graph) (sym is)) (record first { properties = Some [] }) f h b c now r
       ((refl, inl (refl, refl)), inr (inl (refl, inl (refl, refl)))) ok err t
 
-  pub offsets_created : Stand (record first { properties = Some []; graph = Some [] }) → Created n.offsets → Kept → Touches output.Offsets n.offsets told f h b c r → Reach emptied
+  pub offsets_created : Stand (record first { properties = Some []; graph = Some [] }) → Created n.offsets → Kept → Changes output.Offsets n.offsets → Reach emptied
   offsets_created now ok err t =
       creates base a first told output.Offsets n.offsets (ap (λ (x : FileNames). some x.offsets) (sym is)) (record first { properties = Some []; graph = Some [] }) f h b c now r
       ((refl, inl (refl, refl)), inr (inr (inl (refl, inl (refl, refl))))) ok err t
 
-  pub graph_filled : (piece : List ℕ) → piece ≡ a.graph → Stand emptied → Filled n.graph piece → Short n.graph piece → Touches output.Graph n.graph told f h b c r → Reach (record emptied { graph = Some a.graph })
+  pub graph_filled : (piece : List ℕ) → piece ≡ a.graph → Stand emptied → Filled n.graph piece → Short n.graph piece → Changes output.Graph n.graph → Reach (record emptied { graph = Some a.graph })
   graph_filled piece same now ok err t =
       fills base a first told output.Graph n.graph (ap (λ (x : FileNames). some x.graph) (sym is)) emptied f h b c now a.graph piece same r refl
       (λ k less. ((refl, inr ((k, less, refl), (0, refl))), inr (inl (refl, inr ((k, less, refl), (0, refl)))))) ok err t
 
-  pub offsets_filled : (piece : List ℕ) → piece ≡ a.offsets → Stand (record emptied { graph = Some a.graph }) → Filled n.offsets piece → Short n.offsets piece → Touches output.Offsets n.offsets told f h b c r → Reach (unnamed a)
+  pub offsets_filled : (piece : List ℕ) → piece ≡ a.offsets → Stand (record emptied { graph = Some a.graph }) → Filled n.offsets piece → Short n.offsets piece
+      → Changes output.Offsets n.offsets → Reach (unnamed a)
   offsets_filled piece same now ok err t =
       fills base a first told output.Offsets n.offsets (ap (λ (x : FileNames). some x.offsets) (sym is)) (record emptied { graph = Some a.graph }) f h b c now a.offsets piece same r refl
       (λ k less. ((refl, inr (all, (k, less, refl))), inr (inr (inl (refl, inr (all, (k, less, refl))))))) ok err t
@@ -207,7 +226,7 @@ module _ (base : List ℕ) (a : Archive) (n : FileNames) (is : n ≡ names_of ba
       all : HoldsFront (Some a.graph) a.graph
       all = (length a.graph, ap Some (sym (take-length a.graph)))
 
-  pub properties_filled : (piece : List ℕ) → piece ≡ a.properties → Stand (unnamed a) → Filled n.properties piece → Short n.properties piece → Touches output.Properties n.properties told f h b c r → Reach (whole a)
+  pub properties_filled : (piece : List ℕ) → piece ≡ a.properties → Stand (unnamed a) → Filled n.properties piece → Short n.properties piece → Changes output.Properties n.properties → Reach (whole a)
   properties_filled piece same now ok err t =
       fills base a first told output.Properties n.properties (ap (λ (x : FileNames). some x.properties) (sym is)) (unnamed a) f h b c now a.properties piece same r refl
       (λ k less. (inr (refl, refl, (k, less, refl)), inl (inr (refl, refl, (k, less, refl))))) ok err t

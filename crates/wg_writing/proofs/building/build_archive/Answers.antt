@@ -49,7 +49,8 @@ module _ (l : Layout) (g : Digraph) (base : List ℕ) (td to : Bool) (before aft
   -- they were, and then the line is printed
   builds_done : (bits : ℕ) → bits ≡ a.summary.bits → (r : Result (Unit {0}) Ending)
       → WritesFiles a.files base (archive_in base before.files) (whole a.files) td before.files after.files before.counts after.counts (Ok tt)
-      → (IsTrue to → Puts (ok_line p bits) before.taken after.taken r) → IfErr r (λ e. IsUnput e.status) → (status_in r ≡ WriteFault Out → Increased before.out.faults after.out.faults) → (status_in r ≡ Memory → Increased before.out.wants after.out.wants)
+      → (IsTrue to → Puts (ok_line p bits) before.taken after.taken r) → IfErr r (λ e. IsUnput e.status)
+      → (status_in r ≡ WriteFault Out → Increased before.out.faults after.out.faults) → (status_in r ≡ Memory → Increased before.out.wants after.out.wants)
       → BuildsArchive l g base td to before after r
   builds_done bits count r w puts only cause wanted = record {
     only = put_stopped r only;
