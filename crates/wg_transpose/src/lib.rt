@@ -54,6 +54,13 @@
 //!
 //! Counting takes 24 bytes for each page, of which 12 are given back in the end; filling takes 8 for each run, and
 //! listing 4 for each arc, both before their pass. There are no runs or in-lists yet of graphs of 2^32 pages or more.
+//!
+//! Choices:
+//!
+//! - A range ends with the page by which it has as many arcs as are asked for. If it stopped before, a page to which
+//!   many arcs lead could double the number of passes; the price is the list of one page more. Sorting all arcs by
+//!   their targets would take one pass, and 8 to 16 bytes an arc. *Revisit if* passes over the lists cost more than to
+//!   sort.
 #![tactic(auto)]
 
 mod counting;
