@@ -33,7 +33,7 @@ filled_tail : (bits : List Bool) → IsTail (filled bits) (length bits)
 filled_tail bits =
     let zeros : List Bool = replicate (padding (length bits)) false in
     all_zero (filled bits) [] (length bits) (padding (length bits)) (omega (arith, length-append bits zeros)) (drop-append_seam bits zeros ∙ sym (append-nil zeros))
-      (omega (arith, few_missing (length bits))) refl
+    (omega (arith, few_missing (length bits))) refl
 
 -- ---- offsets
 
@@ -58,8 +58,8 @@ words_stand c bits read at (v ∷ vs) before more is some low here start =
     let later : bits ≡ (before ++ first) ++ (others ++ more) = cut ∙ sym (append_assoc before first (others ++ more)) in
     let total : sum (v ∷ vs) ≡ v + sum vs = sum_cons v vs in
     let rest =
-      words_stand c bits (read ++ v ∷ []) (at + length first) vs (before ++ first) more is (omega (arith, length-append read (v ∷ [])))
-        (omega (arith, low, total, sum_push read v)) later (omega (arith, start, length-append before first)) in
+    words_stand c bits (read ++ v ∷ []) (at + length first) vs (before ++ first) more is (omega (arith, length-append read (v ∷ [])))
+    (omega (arith, low, total, sum_push read v)) later (omega (arith, start, length-append before first)) in
     let all : (read ++ v ∷ []) ++ vs ≡ read ++ v ∷ vs = append_assoc read (v ∷ []) vs in
     let end : at + length first + length others ≡ at + length (first ++ others) = omega (arith, length-append first others) in (
       word_stands c v at bits before (others ++ more) is (omega (arith, low, total)) cut start,
@@ -126,7 +126,7 @@ greedy_accepted proper p g within is nodes arcs =
     let low : sum (offset_values p lists) ≤ MOST_PLACE = omega (arith, values_sum p lists, graph_short p lists within are many total) in
     record {
       graph = subst (λ z. ReadsGraph p z (Ok (record { graph = lists; places = offsets.places_of (offset_values p lists) }))) (sym (graph_again p lists))
-        (reads_graph proper p lists within are many total);
+          (reads_graph proper p lists within are many total);
       offsets = subst (λ z. ReadsOffsets p.offsets p.nodes z (Ok (offsets.places_of (offset_values p lists)))) (sym (offsets_again p lists)) (reads_offsets p lists within many low);
       short_graph = short_graph p lists within are many total;
       short_offsets = short_offsets p lists within many;

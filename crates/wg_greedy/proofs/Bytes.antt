@@ -47,7 +47,7 @@ chunks (suc n) a bits le =
     let later : drop (8 * (a + 1)) bits ≡ drop 8 from = ap (λ k. drop k bits) (let e : 8 * (a + 1) ≡ 8 * a + 8 = omega arith in e) ∙ sym (drop-drop 8 (8 * a) bits) in
     let rest : bits_of (map (byte_at bits) (range_with_len (a + 1) n)) ≡ take (8 * n) (drop 8 from) = chunks n (a + 1) bits (omega (arith, le)) ∙ ap (take (8 * n)) later in
     let whole : take (8 * suc n) from ≡ take 8 from ++ take (8 * n) (drop 8 from) =
-      ap (λ k. take k from) (let e : 8 * suc n ≡ 8 + 8 * n = omega arith in e) ∙ take_more_bits 8 (8 * n) from (omega (arith, left)) in
+    ap (λ k. take k from) (let e : 8 * suc n ≡ 8 + 8 * n = omega arith in e) ∙ take_more_bits 8 (8 * n) from (omega (arith, left)) in
     (λ i. here i ++ rest i) ∙ sym whole
 
 filled_length : (bits : List Bool) → length (filled bits) % 8 ≡ 0

@@ -52,8 +52,8 @@ least_one size x (y ∷ ys) =
         x,
         in_head x (y ∷ ys),
         and_from (leb (size x) (size x)) (is_least size (y ∷ ys) x) (le-leb (size x) (size x) (omega arith))
-          (all_more (λ s. leb (size m.0) (size s)) (λ s. leb (size x) (size s)) (y ∷ ys) (λ s h. let low = leb-true (size m.0) (size s) h in
-          le-leb (size x) (size s) (omega arith)) m.2),
+            (all_more (λ s. leb (size m.0) (size s)) (λ s. leb (size x) (size s)) (y ∷ ys) (λ s h. let low = leb-true (size m.0) (size s) h in
+            le-leb (size x) (size s) (omega arith)) m.2),
       )
     ]
 
@@ -69,8 +69,16 @@ find_first : (t : ℕ → Bool) (n : ℕ) (xs : List ℕ) (x : ℕ) → Ascends 
 find_first t n [] x up there passes = absurd (true≢false (sym there))
 find_first t n (w ∷ ws) x up there passes =
     elim (cases_Bool (t w)) [
-      | inl h ↦ (w, record { found = cond-true (t w) (Some w) (find t ws) h; there = in_head w ws; passes = h; first =
-        λ z member lt. absurd (true≢false (sym member ∙ in_below w z (w ∷ ws) (omega arith, up.1) lt)) })
+      | inl h ↦ (
+        w,
+        record {
+          found = cond-true (t w) (Some w) (find t ws) h;
+          there = in_head w ws;
+          passes = h;
+          first =
+              λ z member lt. absurd (true≢false (sym member ∙ in_below w z (w ∷ ws) (omega arith, up.1) lt));
+        },
+      )
       | inr h ↦
           let later : is_in x ws ≡ true = elim (or_cases (eqb x w) (is_in x ws) there) [ inl e ↦ absurd (true≢false (sym passes ∙ ap t (eqb-true x w e) ∙ h)) | inr k ↦ k ] in
           let rest = find_first t (suc w) ws x up.1 later passes in (
@@ -117,7 +125,7 @@ module _ (p : Parameters) (c : Context) (list : List ℕ) where
       elim (cases_lt r (min p.window c.page + 1)) [
         | inl lt ↦ sym (is_in-where (is_candidate p c list) 0 (min p.window c.page + 1) r (omega arith) (omega arith)) ∙ f.there
         | inr past ↦ absurd (true≢false (sym f.there ∙ in_past (min p.window c.page + 1) r (candidates p c list)
-          (below-where (is_candidate p c list) 0 (min p.window c.page + 1) (min p.window c.page + 1) (omega arith)) past))
+            (below-where (is_candidate p c list) 0 (min p.window c.page + 1) (min p.window c.page + 1) (omega arith)) past))
       ]
 
   pub chosen_shortest : (r : ℕ) → is_candidate p c list r ≡ true
@@ -130,5 +138,5 @@ module _ (p : Parameters) (c : Context) (list : List ℕ) where
       let none_less : (s : ℕ) → is_in s xs ≡ true → size best ≤ size s = λ s there. leb-true (size best) (size s) (all_in (λ s. leb (size best) (size s)) xs s f.passes there) in (
         none_less r (member p c list r h),
         λ lt. let g = some_fails (λ s. leb (size r) (size s)) xs (f.first r (member p c list r h) lt) in let less = leb-false (size r) (size g.0) g.2 in let low =
-          none_less g.0 g.1 in omega (arith, less, low),
+            none_less g.0 g.1 in omega (arith, less, low),
       )

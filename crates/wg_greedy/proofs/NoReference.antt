@@ -117,7 +117,7 @@ residuals_have p page n last [] within few here low = refl
 residuals_have p page n last (y ∷ ys) within few here low =
     let gap : stored_gap page last y ≤ 2 * n = gap_low page last y n low.0 here in
     and_from _ _ (residual_holds p.zeta p.residuals (stored_gap page last y) within.some_zeta within.zeta within.residuals (omega (arith, gap, few)))
-      (residuals_have p page n (Some y) ys within few here low.1)
+    (residuals_have p page n (Some y) ys within few here low.1)
 
 count_has : (found : Bool) (least count : ℕ) → count ≤ 2 ^ 62 → all_have_words (count_fields found least count) ≡ true
 count_has found least count le = elim (cases_Bool (found && ltb 0 least)) [ inl h ↦ rw h (and_from _ _ (gamma_holds count le) refl) | inr h ↦ rw h refl ]
@@ -132,10 +132,10 @@ extras_have p page n xs within few here up low =
     let count : length (runs_of xs) ≤ n - 0 = cut_few n 0 (runs_of xs) xs cut runs in
     let long : length (intervals_of p.interval xs) ≤ length (runs_of xs) = few_where (is_long p.interval) (runs_of xs) in
     both_have (count_fields (has_some xs) p.interval (length (intervals_of p.interval xs)) ++ interval_fields page p.interval None (intervals_of p.interval xs))
-      (residual_fields p.residuals page None (residuals_of p.interval xs))
+    (residual_fields p.residuals page None (residuals_of p.interval xs))
     (both_have (count_fields (has_some xs) p.interval (length (intervals_of p.interval xs))) (interval_fields page p.interval None (intervals_of p.interval xs))
-      (count_has (has_some xs) p.interval (length (intervals_of p.interval xs)) (omega (arith, count, long, few)))
-      (intervals_have page p.interval n None (intervals_of p.interval xs) few here (low_where n (is_long p.interval) (runs_of xs) runs)))
+    (count_has (has_some xs) p.interval (length (intervals_of p.interval xs)) (omega (arith, count, long, few)))
+    (intervals_have page p.interval n None (intervals_of p.interval xs) few here (low_where n (is_long p.interval) (runs_of xs) runs)))
     (residuals_have p page n None (residuals_of p.interval xs) within few here (numbers_below n _ (low_where n (λ run. not (is_long p.interval run)) (runs_of xs) runs)))
 
 pub nothing_copied : (list : List ℕ) → extras list [] ≡ list
@@ -146,8 +146,8 @@ list_has : (p : Parameters) (page n : ℕ) (list : List ℕ) → IsWithinLimits 
 list_has p page n [] within few here up low = refl
 list_has p page n (y ∷ ys) within few here up low =
     both_have (reference_fields p 0 ++ copy_fields p 0 [] (y ∷ ys)) (extra_fields p page (extras (y ∷ ys) []))
-      (both_have (reference_fields p 0) (copy_fields p 0 [] (y ∷ ys)) (reference_has p) refl)
-      (subst (λ xs. all_have_words (extra_fields p page xs) ≡ true) (sym (nothing_copied (y ∷ ys))) (extras_have p page n (y ∷ ys) within few here up low))
+    (both_have (reference_fields p 0) (copy_fields p 0 [] (y ∷ ys)) (reference_has p) refl)
+    (subst (λ xs. all_have_words (extra_fields p page xs) ≡ true) (sym (nothing_copied (y ∷ ys))) (extras_have p page n (y ∷ ys) within few here up low))
 
 pub short_list : (m n : ℕ) (xs : List ℕ) → Ascends m xs → Below n xs → length xs ≤ n - m
 short_list m n [] up low = omega arith

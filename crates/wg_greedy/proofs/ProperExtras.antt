@@ -95,9 +95,13 @@ module _ (p : Parameters) (c : Context) (s : SoFar) where
         | inl h ↦
             let asked : (ltb 0 (extra c s) && ltb 0 p.interval && true) ≡ true = and_from _ _ (ap (λ b. b && ltb 0 p.interval) (sym same) ∙ h) refl in
             let one : Admits p c (with_extras s None [] [] []) more (with_extras s (Some count) [] [] []) =
-              admits_count p c s (with_extras s (Some count) [] [] []) None [] [] [] count [] past asked few refl in
-            (Some count, refl, counted_once (ltb 0 (extra c s) && ltb 0 p.interval), subst (λ fs. Admits p c s fs (with_extras s (Some count) [] [] []))
-              (sym (cond-true _ more [] h)) (subst (λ (z : SoFar). Admits p c z more (with_extras s (Some count) [] [] [])) (sym (still_there p c s past)) one))
+            admits_count p c s (with_extras s (Some count) [] [] []) None [] [] [] count [] past asked few refl in (
+              Some count,
+              refl,
+              counted_once (ltb 0 (extra c s) && ltb 0 p.interval),
+              subst (λ fs. Admits p c s fs (with_extras s (Some count) [] [] []))
+                  (sym (cond-true _ more [] h)) (subst (λ (z : SoFar). Admits p c z more (with_extras s (Some count) [] [] [])) (sym (still_there p c s past)) one),
+            )
         | inr h ↦
             let none : 0 ≡ count = sym (ap length (no_intervals p.interval xs h)) in
             let passed : IsCounted p c s None = ap (λ b. b && true) (ap (λ b. b && ltb 0 p.interval) (sym same) ∙ h) in
@@ -130,16 +134,16 @@ module _ (p : Parameters) (c : Context) (s : SoFar) where
       let ends : last_of ls' + last_of ks' ≡ l + k = omega (arith, last_push ls l, last_push ks k) in
       let rest : Admits p c (with_extras s n ls' ks' []) (interval_fields c.page p.interval (Some (l + k)) rs) (with_extras s n (ls' ++ lefts_of rs) (ks' ++ lengths_of rs) []) =
       intervals_read n ls' ks' (Some (l + k)) rs after counted (omega (arith, even, one_left, one_length)) (omega (arith, all, one_left)) (omega (arith, one_left), ends)
-        apart.4 (omega (arith, sum_push ks k, total, room)) in
+      apart.4 (omega (arith, sum_push ks k, total, room)) in
       let same : with_extras s n (ls' ++ lefts_of rs) (ks' ++ lengths_of rs) [] ≡ with_extras s n (ls ++ lefts_of (r ∷ rs)) (ks ++ lengths_of (r ∷ rs)) [] =
-        λ i. with_extras s n (append_assoc ls (l ∷ []) (lefts_of rs) i) (append_assoc ks (k ∷ []) (lengths_of rs) i) [] in
+      λ i. with_extras s n (append_assoc ls (l ∷ []) (lefts_of rs) i) (append_assoc ks (k ∷ []) (lengths_of rs) i) [] in
       let t : SoFar = with_extras s n (ls ++ lefts_of (r ∷ rs)) (ks ++ lengths_of (r ∷ rs)) [] in
       let long : Admits p c (with_extras s n ls' ks []) (written field.Length Gamma (k - p.interval) ∷ interval_fields c.page p.interval (Some (l + k)) rs) t =
       admits_length p c s t n ls' ks [] k l (interval_fields c.page p.interval (Some (l + k)) rs) after counted (omega (arith, even, one_left)) (last_push ls l) apart.2
-        (omega (arith, total, room)) apart.3
+      (omega (arith, total, room)) apart.3
       (subst (λ (z : SoFar). Admits p c (with_extras s n ls' ks' []) (interval_fields c.page p.interval (Some (l + k)) rs) z) same rest) in
       admits_left p c s t n ls ks [] (stored_gap c.page past l) l (written field.Length Gamma (k - p.interval) ∷ interval_fields c.page p.interval (Some (l + k)) rs)
-        after counted even (omega (arith, all)) (left_is c s n ls ks [] past l last apart.0) (omega (arith, apart.1, apart.3)) long
+      after counted even (omega (arith, all)) (left_is c s n ls ks [] past l last apart.0) (omega (arith, apart.1, apart.3)) long
 
   -- ---- the residuals
 
@@ -155,7 +159,7 @@ module _ (p : Parameters) (c : Context) (s : SoFar) where
       residuals_read n ls ks ys' (Some z) zs past counted even all (omega (arith, one), last_push ys z) up.1 low.1 (omega (arith, one, room)) in
       let t : SoFar = with_extras s n ls ks (ys ++ z ∷ zs) in
       admits_residual p c s t n ls ks ys (stored_gap c.page last z) z (residual_fields p.residuals c.page (Some z) zs) past counted even all (omega (arith, room))
-        (residual_is c s n ls ks ys last z is up.0) low.0
+      (residual_is c s n ls ks ys last z is up.0) low.0
       (subst (λ xs. Admits p c (with_extras s n ls ks ys') (residual_fields p.residuals c.page (Some z) zs) (with_extras s n ls ks xs)) (append_assoc ys (z ∷ []) zs) rest)
 
 -- ---- members
@@ -215,10 +219,10 @@ extras_admitted p c s xs past up low all =
     residuals_read p c s n ls ks [] None ys past counts.2 even (omega (arith, count)) refl (parts_ascend p.interval xs up).1 low_residuals (omega (arith, size)) in
     let t : SoFar = with_extras s n ls ks ys in
     let front =
-      admits_append p c s (with_extras s n [] [] []) (with_extras s n ls ks []) (count_fields (has_some xs) p.interval (length runs)) (interval_fields c.page p.interval None runs) counts.3 middle in (
+    admits_append p c s (with_extras s n [] [] []) (with_extras s n ls ks []) (count_fields (has_some xs) p.interval (length runs)) (interval_fields c.page p.interval None runs) counts.3 middle in (
       t,
       admits_append p c s (with_extras s n ls ks []) t (count_fields (has_some xs) p.interval (length runs) ++ interval_fields c.page p.interval None runs)
-        (residual_fields p.residuals c.page None ys) front last,
+          (residual_fields p.residuals c.page None ys) front last,
       record {
         ends = next_end p c s n ls ks ys past counts.2 even (omega (arith, count)) (omega (arith, size));
         outdegree = refl;
@@ -231,7 +235,7 @@ extras_admitted p c s xs past up low all =
 pub extras_stand : (p : Parameters) (c : Context) (s : SoFar) (xs : List ℕ) (before rest : List Bool) → IsWithinLimits p → c.page < p.nodes → IsPastCopies p c s
     → Ascends 0 xs → Below p.nodes xs → extra c s ≡ length xs → all_have_words (extra_fields p c.page xs) ≡ true
     → (t : SoFar) × (vs : List ℕ) × Fields p c (before ++ (bits_of_fields (extra_fields p c.page xs) ++ rest)) s (length before) vs t
-        (length before + length (bits_of_fields (extra_fields p c.page xs))) × ExtrasRead p c s t xs
+    (length before + length (bits_of_fields (extra_fields p c.page xs))) × ExtrasRead p c s t xs
 extras_stand p c s xs before rest within here past up low all have =
     let read = extras_admitted p c s xs past up low all in
     (read.0, values_of (extra_fields p c.page xs), admitted_stand p c s read.0 (extra_fields p c.page xs) before rest have read.1, read.2)

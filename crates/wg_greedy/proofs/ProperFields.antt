@@ -75,13 +75,13 @@ admitted_stand p c s t (f ∷ fs) before rest have admits =
     let parts = and_parts (leb f.value (top f.code)) (all_have_words fs) have in
     let bits : before ++ ((w ++ more) ++ rest) ≡ before ++ (w ++ (more ++ rest)) = ap (λ z. before ++ z) (append_assoc w more rest) in
     let first : Fields p c (before ++ (w ++ (more ++ rest))) s (length before) (f.value ∷ []) u (length before + length w) =
-      one_field p c s f.field f.code f.value before (more ++ rest) admits.0 (leb-true f.value (top f.code) parts.0) admits.1 in
+    one_field p c s f.field f.code f.value before (more ++ rest) admits.0 (leb-true f.value (top f.code) parts.0) admits.1 in
     let later : Fields p c ((before ++ w) ++ (more ++ rest)) u (length (before ++ w)) (values_of fs) t (length (before ++ w) + length more) =
-      admitted_stand p c u t fs (before ++ w) rest parts.1 admits.2 in
+    admitted_stand p c u t fs (before ++ w) rest parts.1 admits.2 in
     let same : Fields p c (before ++ (w ++ (more ++ rest))) u (length before + length w) (values_of fs) t (length (before ++ w) + length more) =
     subst (λ k. Fields p c (before ++ (w ++ (more ++ rest))) u k (values_of fs) t (length (before ++ w) + length more)) (length-append before w)
-      (subst (λ z. Fields p c z u (length (before ++ w)) (values_of fs) t (length (before ++ w) + length more)) (append_assoc before w (more ++ rest)) later) in
+    (subst (λ z. Fields p c z u (length (before ++ w)) (values_of fs) t (length (before ++ w) + length more)) (append_assoc before w (more ++ rest)) later) in
     let both : Fields p c (before ++ (w ++ (more ++ rest))) s (length before) (f.value ∷ values_of fs) t (length (before ++ w) + length more) =
-      fields_append p c (before ++ (w ++ (more ++ rest))) s u t (length before) (length before + length w) (length (before ++ w) + length more) (f.value ∷ []) (values_of fs) first same in
+    fields_append p c (before ++ (w ++ (more ++ rest))) s u t (length before) (length before + length w) (length (before ++ w) + length more) (f.value ∷ []) (values_of fs) first same in
     subst (λ k. Fields p c (before ++ ((w ++ more) ++ rest)) s (length before) (f.value ∷ values_of fs) t k) (end_moved before w more)
-      (subst (λ z. Fields p c z s (length before) (f.value ∷ values_of fs) t (length (before ++ w) + length more)) (sym bits) both)
+    (subst (λ z. Fields p c z s (length before) (f.value ∷ values_of fs) t (length (before ++ w) + length more)) (sym bits) both)

@@ -80,7 +80,7 @@ module _ (p : Parameters) (c : Context) (s t : SoFar) (n : Option ℕ) (ls ks ys
       one_admitted p c (with_extras s n ls ks ys) (with_extras s n ls (ks ++ k ∷ []) ys) t field.Length Gamma (k - p.interval) fs
       (next_later p c s n ls ks ys past ∙ cond-false _ _ _ counted ∙ cond-true _ _ _ (lt-ltb (length ks) (length ls) odd))
       (cond-false _ _ _ (or_from _ _ (le-ltb (extra c s - (sum ks + length ys)) (k - p.interval + p.interval) (omega (arith, own, room)))
-        (le-ltb p.nodes (last_of ls + (k - p.interval) + p.interval) (omega (arith, last, long, low)))))
+      (le-ltb p.nodes (last_of ls + (k - p.interval) + p.interval) (omega (arith, last, long, low)))))
       (ap (λ j. with_extras s n ls (ks ++ j ∷ []) ys) own) rest
 
   pub admits_residual : (v y : ℕ) (fs : List Written) → IsPastCopies p c s → IsCounted p c s n → length ks ≡ length ls → value_or_0 n ≤ length ls

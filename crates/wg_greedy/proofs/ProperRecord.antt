@@ -98,7 +98,7 @@ module _ (p : Parameters) (c : Context) where
       let s : SoFar = reading d (named p 0) None [] false in
       let admits : Admits p c nothing_yet (front_fields p 0 [] list) s =
       begins p c d (reference_fields p 0 ++ copy_fields p 0 [] list) s few total
-        (admits_append p c (reading d None None [] false) s s (reference_fields p 0) [] (reference_admitted p c d 0 some (omega arith) (none_passes p.chain)) refl) in
+      (admits_append p c (reading d None None [] false) s s (reference_fields p 0) [] (reference_admitted p c d 0 some (omega arith) (none_passes p.chain)) refl) in
       record {
         so_far = s;
         values = values_of (front_fields p 0 [] list);
@@ -126,22 +126,22 @@ module _ (p : Parameters) (c : Context) where
       let copies_is : copy_fields p r asked list ≡ block_fields p blocks = cond-true (ltb 0 r) (block_fields p blocks) [] (lt-ltb 0 r refers) in
       let copies : Admits p c (reading d (Some r) None [] false) (copy_fields p r asked list) u =
       subst (λ fs. Admits p c (reading d (Some r) None [] false) fs u) (sym copies_is)
-        (blocks_admitted p c d r blocks some refers window (few_blocks list asked) (end_within list asked) (later_some list asked)) in
+      (blocks_admitted p c d r blocks some refers window (few_blocks list asked) (end_within list asked) (later_some list asked)) in
       let admits : Admits p c nothing_yet (front_fields p r asked list) u =
       begins p c d (reference_fields p r ++ copy_fields p r asked list) u few total
-        (admits_append p c (reading d None None [] false) (reading d (Some r) None [] false) u (reference_fields p r) (copy_fields p r asked list) reference copies) in
+      (admits_append p c (reading d None None [] false) (reading d (Some r) None [] false) u (reference_fields p r) (copy_fields p r asked list) reference copies) in
       let copied_is : copied c u ≡ filter (λ y. is_in y list) asked = copy_successors list asked in
       let fits : length (copied c u) ≤ d = omega (arith, ap length copied_is, copied_and_extra p.nodes list asked list_is.ascends list_is.below asked_is.ascends asked_is.below) in
       let bits : List Bool = before ++ (bits_of_fields (front_fields p r asked list) ++ rest) in
       let end : ℕ = length before + length (bits_of_fields (front_fields p r asked list)) in
       let checked : Fields p c bits u end (0 ∷ []) s end =
       subst (λ (z : SoFar). Fields p c bits u end (0 ∷ []) z end) (check_read p c d r n blocks)
-          (one_check p c bits u end (check_next p c d r blocks some refers window) (check_fine p c d r n blocks fits)) in
+      (one_check p c bits u end (check_next p c d r blocks some refers window) (check_fine p c d r n blocks fits)) in
       record {
         so_far = s;
         values = values_of (front_fields p r asked list) ++ 0 ∷ [];
         read = fields_append p c bits nothing_yet u s (length before) end end (values_of (front_fields p r asked list)) (0 ∷ [])
-          (admitted_stand p c nothing_yet u (front_fields p r asked list) before rest words admits) checked;
+            (admitted_stand p c nothing_yet u (front_fields p r asked list) before rest words admits) checked;
         past = past_blocks p c d r blocks some window;
         outdegree = refl;
         refers = refl;
@@ -180,7 +180,7 @@ module _ (p : Parameters) (c : Context) where
       → ReadsRecord p c (before ++ ((bits_of_fields (front_fields p r (referenced c.behind r) list) ++ bits_of_fields
       (extra_fields p c.page (extras list (referenced c.behind r)))) ++ rest)) (length before)
       (proper list (depth_of c.behind r) (length before + length (bits_of_fields (front_fields p r (referenced c.behind r) list) ++ bits_of_fields
-        (extra_fields p c.page (extras list (referenced c.behind r))))))
+      (extra_fields p c.page (extras list (referenced c.behind r))))))
   some_read list r before rest limits here is asked_is words f =
       let asked : List ℕ = referenced c.behind r in
       let xs : List ℕ = extras list asked in
@@ -199,7 +199,7 @@ module _ (p : Parameters) (c : Context) where
       subst (λ k. Fields p c bits s k e.1 t end) (length-append before front) (subst (λ z. Fields p c z s (length (before ++ front)) e.1 t end) (sym (bits_moved before front more rest)) e.2) in
       let all : Fields p c bits nothing_yet (length before) (f.values ++ e.1) t (length before + length (front ++ more)) =
       subst (Fields p c bits nothing_yet (length before) (f.values ++ e.1) t) (end_moved before front more)
-        (fields_append p c bits nothing_yet s t (length before) (length before + length front) end f.values e.1 first second) in
+      (fields_append p c bits nothing_yet s t (length before) (length before + length front) end f.values e.1 first second) in
       let list_same : list_of p c t ≡ list = list_is_read p c t list is (members_are p c s t list asked f.copies e.3) in
       let degree : value_or_0 t.outdegree ≡ length list = ap value_or_0 (e.3.outdegree ∙ f.outdegree) in
       let named_same : value_or_0 t.reference ≡ r = ap value_or_0 e.3.reference ∙ f.refers in
@@ -222,9 +222,13 @@ empty_read : (p : Parameters) (c : Context) (before rest : List Bool) → c.arcs
 empty_read p c before rest total words =
     let s : SoFar = reading 0 None None [] false in
     let admits : Admits p c nothing_yet (empty_fields p) s = begins p c 0 [] s (omega arith) total refl in
-    let is : list_of p c s ≡ [] = empty_list p c in
-    (values_of (empty_fields p), s, length before + length (bits_of_fields (empty_fields p)), admitted_stand p c nothing_yet s (empty_fields p) before rest words admits,
-      (empty_ends p c, ap length is, sym is, refl, refl))
+    let is : list_of p c s ≡ [] = empty_list p c in (
+      values_of (empty_fields p),
+      s,
+      length before + length (bits_of_fields (empty_fields p)),
+      admitted_stand p c nothing_yet s (empty_fields p) before rest words admits,
+      (empty_ends p c, ap length is, sym is, refl, refl),
+    )
 
 pub canonical_proper : (p : Parameters) (c : Context) (list : List ℕ) (r : ℕ) (before rest : List Bool) → IsWithinLimits p → c.page < p.nodes
     → All (λ (k : Known). IsList p k.list) c.behind → IsList p list → c.arcs_before + length list ≤ p.arcs → is_candidate p c list r ≡ true

@@ -92,8 +92,13 @@ pub residuals_short : (p : Parameters) (page : ℕ) (last : Option ℕ) (ys : Li
 residuals_short p page last [] within = omega arith
 residuals_short p page last (y ∷ ys) within =
     let rest : List Written = residual_fields p.residuals page (Some y) ys in
-    omega (arith, bits_more (written field.Residual p.residuals (stored_gap page last y)) rest, residual_short p.zeta p.residuals (stored_gap page last y) within.zeta
-      within.residuals, residuals_short p page (Some y) ys within)
+    omega (
+      arith,
+      bits_more (written field.Residual p.residuals (stored_gap page last y)) rest,
+      residual_short p.zeta p.residuals (stored_gap page last y) within.zeta
+          within.residuals,
+      residuals_short p page (Some y) ys within,
+    )
 
 blocks_short : (p : Parameters) (vs : List ℕ) → IsWithinLimits p → length (bits_of_fields (map (written field.Block p.blocks) vs)) ≤ 2 ^ 8 * length vs
 blocks_short p [] within = omega arith
@@ -136,8 +141,15 @@ copies_short p r referenced list within =
     let blocks : List ℕ = canonical_blocks list referenced in
     let stored : List Written = map (written field.Block p.blocks) (stored_blocks blocks) in
     elim (cases_Bool (ltb 0 r)) [
-      | inl h ↦ rw h (omega (arith, bits_more (written field.BlockCount p.block_counts (length blocks)) stored, count_short p.block_counts (length blocks)
-        within.block_counts, blocks_short p (stored_blocks blocks) within, stored_as_many blocks, few_blocks list referenced))
+      | inl h ↦ rw h (omega (
+        arith,
+        bits_more (written field.BlockCount p.block_counts (length blocks)) stored,
+        count_short p.block_counts (length blocks)
+            within.block_counts,
+        blocks_short p (stored_blocks blocks) within,
+        stored_as_many blocks,
+        few_blocks list referenced,
+      ))
       | inr h ↦ rw h (omega arith)
     ]
 

@@ -86,9 +86,9 @@ records_stand proper p within behind (list ∷ lists) bits before rest at are kn
     let cut : bits ≡ before ++ (first ++ (more ++ rest)) = is ∙ ap (λ z. before ++ z) (append_assoc first more rest) in
     let later : bits ≡ (before ++ first) ++ (more ++ rest) = cut ∙ sym (append_assoc before first (more ++ rest)) in
     let stands : ReadsRecord p here (before ++ (first ++ (more ++ rest))) (length before)
-      (Ok (record { known = record { list = list; depth = depth_of here.behind (reference_of list r) }; end = length before + size_of p here list r })) =
+    (Ok (record { known = record { list = list; depth = depth_of here.behind (reference_of list r) }; end = length before + size_of p here list r })) =
     proper p here list r before (more ++ rest) within (omega (arith, page, nodes)) (All-take (λ (k : Known). IsList p k.list) p.window (knowns behind) known) are.0
-      (omega (arith, arcs_known behind, arcs, sum)) (chosen_candidate p here list) in
+    (omega (arith, arcs_known behind, arcs, sum)) (chosen_candidate p here list) in
     let whole : record { known = record { list = list; depth = depth_of here.behind (reference_of list r) }; end = length before + size_of p here list r } ≡ w =
     λ i. record { known = record { list = list; depth = depth_of here.behind (has_reference p here list i) }; end = sym start i + size_of p here list r } in
     let reads : ReadsRecord p (context_of p behind) bits at (Ok w) =
@@ -98,8 +98,8 @@ records_stand proper p within behind (list ∷ lists) bits before rest at are kn
     (subst (λ (v : Whole). ReadsRecord p here (before ++ (first ++ (more ++ rest))) (length before) (Ok v)) whole stands))) in
     let end : w.end ≡ length (before ++ first) = omega (arith, start, length-append before first) in
     let rest_stand =
-      records_stand proper p within (w ∷ behind) lists bits (before ++ first) rest w.end are.1
-        (All-cons (λ (k : Known). IsList p k.list) w.known (knowns behind) are.0 known) (omega (arith, nodes)) (omega (arith, arcs, sum, sum')) later end in
+    records_stand proper p within (w ∷ behind) lists bits (before ++ first) rest w.end are.1
+    (All-cons (λ (k : Known). IsList p k.list) w.known (knowns behind) are.0 known) (omega (arith, nodes)) (omega (arith, arcs, sum, sum')) later end in
     let last : w.end + length more ≡ at + length (bits_after p (knowns behind) (list ∷ lists)) = omega (arith, size) in (
       omega (arith, nodes),
       reads,

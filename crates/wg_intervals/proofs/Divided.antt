@@ -52,9 +52,9 @@ together t (r ∷ rs) n xs cut y =
     let joined : (is_in y (numbers_of r) || (is_in y (of_runs t rs) || is_in y (of_runs (others t) rs))) ≡ is_in y xs = ap (λ b. is_in y (numbers_of r) || b) rest ∙ sym whole in
     elim (cases_Bool (t r)) [
       | inl h ↦ rw h (ap (λ b. b || is_in y (of_runs (others t) rs)) (in_append y (numbers_of r) (of_runs t rs))
-        ∙ or_front (is_in y (numbers_of r)) (is_in y (of_runs t rs)) (is_in y (of_runs (others t) rs)) ∙ joined)
+          ∙ or_front (is_in y (numbers_of r)) (is_in y (of_runs t rs)) (is_in y (of_runs (others t) rs)) ∙ joined)
       | inr h ↦ rw h (ap (λ b. is_in y (of_runs t rs) || b) (in_append y (numbers_of r) (of_runs (others t) rs))
-        ∙ or_middle (is_in y (numbers_of r)) (is_in y (of_runs t rs)) (is_in y (of_runs (others t) rs)) ∙ joined)
+          ∙ or_middle (is_in y (numbers_of r)) (is_in y (of_runs t rs)) (is_in y (of_runs (others t) rs)) ∙ joined)
     ]
 
 pub once : (t : Run → Bool) (rs : List Run) (n : ℕ) (xs : List ℕ) → Cut n rs xs → length (of_runs t rs) + length (of_runs (others t) rs) ≡ length xs

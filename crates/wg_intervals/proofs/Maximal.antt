@@ -58,7 +58,7 @@ firsts_run l m zs up =
     let above : Ascends (l + suc m) zs = ascends_more (l + suc m) (l + suc m + 1) zs (omega arith) up in
     let here : begins xs l ≡ true = begins_here l xs (range_ascends l l (suc m) zs (omega arith) above) in
     let none : filter (begins xs) later ≡ [] =
-      filter_none (begins xs) (l + 1) m (λ y low high. or_from _ _ (ne_eqb y 0 (λ e. omega arith)) (ap not (in_run l (suc m) (y - 1) zs (omega arith) (omega arith)))) in
+    filter_none (begins xs) (l + 1) m (λ y low high. or_from _ _ (ne_eqb y 0 (λ e. omega arith)) (ap not (in_run l (suc m) (y - 1) zs (omega arith) (omega arith)))) in
     let rest : filter (begins xs) zs ≡ firsts zs = filter_same (begins xs) (begins zs) (l + suc m + 1) zs up (λ y low. ap (λ b. eqb y 0 || not b) (past_run l (suc m) (y - 1) zs (omega arith))) in
     cond-true (begins xs l) (l ∷ filter (begins xs) (later ++ zs)) (filter (begins xs) (later ++ zs)) here
     ∙ ap (λ ys. l ∷ ys) (filter-append (begins xs) later zs ∙ ap (λ ys. ys ++ filter (begins xs) zs) none ∙ rest)
@@ -104,7 +104,7 @@ Cut n (r ∷ rs) xs = (n ≤ r.left) × (0 < r.length) × (zs : List ℕ) × (xs
 cut_from : (n l m : ℕ) (ys : List ℕ) → n ≤ l → Ascends (l + suc m) ys → Cut n (runs_of (range_with_len l (suc m) ++ ys)) (range_with_len l (suc m) ++ ys)
 cut_from n l m [] le up =
     let one : runs_of (range_with_len l (suc m) ++ []) ≡ record { left = l; length = suc m } ∷ [] =
-      first_run l (suc m) [] (omega arith) tt ∙ ap (λ rs. record { left = l; length = suc m } ∷ rs) no_runs in
+    first_run l (suc m) [] (omega arith) tt ∙ ap (λ rs. record { left = l; length = suc m } ∷ rs) no_runs in
     subst (λ rs. Cut n rs (range_with_len l (suc m) ++ [])) (sym one) (le, omega arith, [], refl, refl)
 cut_from n l m (y ∷ ys) le up =
     elim (cases_eq y (l + suc m)) [
@@ -112,7 +112,7 @@ cut_from n l m (y ∷ ys) le up =
           subst (λ xs. Cut n (runs_of xs) xs) whole (cut_from n l (suc m) ys le (subst (λ k. Ascends k ys) (let e : suc y ≡ l + suc (suc m) = omega arith in e) up.1))
       | inr other ↦ let first : l + suc m ≤ y = up.0 in
           let rest : Cut (l + suc m + 1) (runs_of (range_with_len y 1 ++ ys)) (range_with_len y 1 ++ ys) =
-            cut_from (l + suc m + 1) y 0 ys (omega arith) (subst (λ k. Ascends k ys) (let e : suc y ≡ y + 1 = omega arith in e) up.1) in
+          cut_from (l + suc m + 1) y 0 ys (omega arith) (subst (λ k. Ascends k ys) (let e : suc y ≡ y + 1 = omega arith in e) up.1) in
           subst (λ rs. Cut n rs (range_with_len l (suc m) ++ y ∷ ys)) (sym (first_run l (suc m) (y ∷ ys) (omega arith) (omega arith, up.1))) (le, omega arith, y ∷ ys, refl, rest)
     ]
 

@@ -17,8 +17,21 @@ two_of_the_least_length =
       (
         drop 4 bits,
         record { v = 2; w = 0; between = drop 3 bits; left_word = (lit≤ tt, refl); length_word = (lit≤ tt, refl); left_is = refl; length_is = refl; left_low = lit≤ tt; low = lit≤ tt },
-        (drop 6 bits, record { v = 0; w = 0; between = drop 5 bits; left_word = (lit≤ tt, refl); length_word = (lit≤ tt, refl); left_is = refl;
-          length_is = refl; left_low = lit≤ tt; low = lit≤ tt }, tt),
+        (
+          drop 6 bits,
+          record {
+            v = 0;
+            w = 0;
+            between = drop 5 bits;
+            left_word = (lit≤ tt, refl);
+            length_word = (lit≤ tt, refl);
+            left_is = refl;
+            length_is = refl;
+            left_low = lit≤ tt;
+            low = lit≤ tt;
+          },
+          tt,
+        ),
       ),
     )
 
@@ -30,8 +43,21 @@ one_before_the_page =
       7 ∷ [],
       3 ∷ [],
       refl,
-      (drop 8 bits, record { v = 5; w = 1; between = drop 5 bits; left_word = (lit≤ tt, refl); length_word = (lit≤ tt, refl); left_is = refl; length_is = refl;
-        left_low = lit≤ tt; low = lit≤ tt }, tt),
+      (
+        drop 8 bits,
+        record {
+          v = 5;
+          w = 1;
+          between = drop 5 bits;
+          left_word = (lit≤ tt, refl);
+          length_word = (lit≤ tt, refl);
+          left_is = refl;
+          length_is = refl;
+          left_low = lit≤ tt;
+          low = lit≤ tt;
+        },
+        tt,
+      ),
     )
 
 -- 011 1 1 010 1 1, and six bits that belong to nothing
@@ -48,8 +74,21 @@ two_empty =
         (
           drop 8 bits,
           record { v = 0; w = 1; between = drop 5 bits; left_word = (lit≤ tt, refl); length_word = (lit≤ tt, refl); left_is = refl; length_is = refl; left_low = lit≤ tt; low = lit≤ tt },
-          (drop 10 bits, record { v = 0; w = 0; between = drop 9 bits; left_word = (lit≤ tt, refl); length_word = (lit≤ tt, refl); left_is = refl;
-            length_is = refl; left_low = lit≤ tt; low = lit≤ tt }, tt),
+          (
+            drop 10 bits,
+            record {
+              v = 0;
+              w = 0;
+              between = drop 9 bits;
+              left_word = (lit≤ tt, refl);
+              length_word = (lit≤ tt, refl);
+              left_is = refl;
+              length_is = refl;
+              left_low = lit≤ tt;
+              low = lit≤ tt;
+            },
+            tt,
+          ),
         ),
       ),
     )

@@ -137,7 +137,7 @@ after_page chain i lt = drop-cons chain (suc i) 0 lt
 module _ (p : Parameters) (bits : List Bool) (offsets : List ℕ) where
   pub up_one : (x : ℕ) (chain : List ℕ) (i : ℕ) (v w : Result Known ArchiveFault) → suc i < length chain → IsChain p bits offsets x chain →
       ChainReads p bits offsets (get_or chain (suc i) 0) (drop (suc (suc i)) chain) v → OverReads p bits offsets (get_or chain i 0) v w
-        → ChainReads p bits offsets (get_or chain i 0) (drop (suc i) chain) w
+      → ChainReads p bits offsets (get_or chain i 0) (drop (suc i) chain) w
   up_one x chain i v w lt h reads over =
       subst (λ (zs : List ℕ). ChainReads p bits offsets (get_or chain i 0) zs w) (sym (after_page chain i lt)) (h.links i lt, v, reads, over)
 

@@ -126,7 +126,7 @@ module _ (base : List ℕ) where
           → Reaches (with_part o (Some bytes) now) r
       fills bytes piece same r empty may ok err t =
           by_result r (λ told is. subst (λ (l : List ℕ). OnOk r (map.get h m ≡ Some l)) same (ok told is))
-            (λ told is. subst (λ (l : List ℕ). IfErr r (λ e. HoldsLess (map.get h m) l)) same (err told is)) t
+          (λ told is. subst (λ (l : List ℕ). IfErr r (λ e. HoldsLess (map.get h m) l)) same (err told is)) t
         where
           there : IsTrue told → map.get f m ≡ Some []
           there told = held o m f named ∙ ap (part o) (is_now told) ∙ empty
@@ -135,7 +135,7 @@ module _ (base : List ℕ) where
               → Touched r → Reaches (with_part o (Some bytes) now) r
           by_result (Ok done) ok err t =
               called (with_part o (Some bytes) now) (Ok done) t (λ told. changed o m (Some bytes) f h named (t.others told) (ok told (there told))
-                ∙ ap (with_part o (Some bytes)) (is_now told)) (λ told. tt)
+              ∙ ap (with_part o (Some bytes)) (is_now told)) (λ told. tt)
           by_result (Err e) ok err t =
               called (with_part o (Some bytes) now) (Err e) t (λ told. tt)
               (λ told.
@@ -162,7 +162,7 @@ module _ (base : List ℕ) where
         → WritesFiles a base first y told f h b c r
     writes_exit x y f h b c r e is w =
         subst (λ (z : Outcome). WritesFiles a base first y told f h b c z) (sym (is_that_err r e is))
-            (record { ok = λ t. tt; err = w.err; others = w.others; only = w.only; causes = w.causes; later = w.later })
+        (record { ok = λ t. tt; err = w.err; others = w.others; only = w.only; causes = w.causes; later = w.later })
 
   -- memory ran out before a file was touched
   pub none_written : (a : Archive) (told : Bool) (y : ArchiveFiles) (f : Files) (b : List ℕ → Counts) (e : Ending) → e.status ≡ Memory → WritesFiles a base (archive_in base f) y told f f b b (Err e)

@@ -90,6 +90,9 @@ up-preserved g c =
 
 pub returns-clause-reads : goal.returns-clause-reads
 returns-clause-reads g c = λ bits o r l x whole.
-    let none : c.up.left ≡ 0 = omega arith in
-    (known_of c.up.known, subst (λ (k : ℕ). ChainReads c.args.params.now bits o (get_or c.args.chain.now k 0) (drop (suc k) c.args.chain.now) (Ok (known_of c.up.known)))
-      none (c.up.invariant.reads bits o r l x whole), refl)
+    let none : c.up.left ≡ 0 = omega arith in (
+      known_of c.up.known,
+      subst (λ (k : ℕ). ChainReads c.args.params.now bits o (get_or c.args.chain.now k 0) (drop (suc k) c.args.chain.now) (Ok (known_of c.up.known)))
+          none (c.up.invariant.reads bits o r l x whole),
+      refl,
+    )

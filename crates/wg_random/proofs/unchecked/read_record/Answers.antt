@@ -53,5 +53,5 @@ returns-in-Err-clause-fault g c = λ bits o r l.
     let lies = c.in_ok-extent.ensures.lies o l in
     let bad = rw (lies.0, lies.1) at c.in-Err.ensures.other in
     length_fault c.args.params.now bits o c.args.page k (g.S.Source.offset c.go_to_record.new.source) (g.S.Source.offset c.decode_over.new.source) c.at.result
-      (known_of c.in_ok-decoded.decoded) c.in-Err.fault
+    (known_of c.in_ok-decoded.decoded) c.in-Err.fault
     (c.in_ok-extent.ensures.at ∙ lies.0) (c.in_ok-decoded.ensures.reads bits on) c.at.ensures.value bad.0 bad.1

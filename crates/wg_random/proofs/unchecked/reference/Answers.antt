@@ -37,5 +37,5 @@ returns-clause-reads g c = λ bits o r l.
     let h = c.in_ok-head.head in
     let on = g.met.S.Seek.bits_stay _ _ bits c.in_ok-go_to_record.ensures.reached r in
     head_reads p bits o c.args.page (g.S.Source.offset c.go_to_record.new.source) h.outdegree h.reference (g.S.Source.offset c.head_from.new.source)
-      (c.in_ok-go_to_record.ensures.at ∙ (c.in_ok-go_to_record.ensures.lies o l).0)
+    (c.in_ok-go_to_record.ensures.at ∙ (c.in_ok-go_to_record.ensures.lies o l).0)
     (c.in_ok-head.ensures.stands bits on (replicate p.window no_page))

@@ -21,7 +21,7 @@ loop-number-preserved c = record {
   short = omega (arith, c.step.ensures.longer, c.loop-number.invariant.short);
   low = omega (arith, c.step.ensures.end, c.type_inv.extras c.loop-number.number-index);
   splitting = more c.args.interval c.args.extras.now c.loop-number.number-index c.loop-number.run c.step.new.self c.step.result _ _ _ _ c.loop-number-test.true
-    c.loop-number.invariant.splitting c.step.ensures.runs c.step.ensures.end c.in_ok-add.ensures.intervals c.in_ok-add.ensures.residuals;
+      c.loop-number.invariant.splitting c.step.ensures.runs c.step.ensures.end c.in_ok-add.ensures.intervals c.in_ok-add.ensures.residuals;
 }
 
 pub add-requires-2 : goal.add-requires-2

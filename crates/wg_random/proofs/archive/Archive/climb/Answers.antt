@@ -11,7 +11,7 @@ pub fill-requires-in-up-clause-ready : goal.fill-requires-in-up-clause-ready
 fill-requires-in-up-clause-ready c r =
     let h = c.up.invariant in
     next_up c.args.self.now.params c.args.self.now.bits r.records c.args.chain.now c.as_slice.result.now c.args.x _ c.up.left (omega arith) (omega (arith, h.within))
-      (omega (arith, c.requires.some)) (c.as_slice.ensures ∙ h.list r) (c.requires.chain r)
+    (omega (arith, c.requires.some)) (c.as_slice.ensures ∙ h.list r) (c.requires.chain r)
 
 pub returns : goal.returns
 returns c r =

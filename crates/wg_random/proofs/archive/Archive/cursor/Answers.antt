@@ -22,4 +22,4 @@ pub returns : goal.returns
 returns c =
     let g = read_of c.self.inside.params (bits_of c.self.inside.bytes.now) _ c.self.invariant.1.1 in
     cursor_is _ _ c.self.view_is c.args.page c.nodes.ensures.limits g.reading c.self.inside.offsets.now g.places c.place.result c.place.ensures.value c.new.result
-      (c.new.ensures ∙ ap (λ (b : List Bool). record { bits = b; at = c.place.result }) c.of.ensures)
+    (c.new.ensures ∙ ap (λ (b : List Bool). record { bits = b; at = c.place.result }) c.of.ensures)

@@ -29,5 +29,5 @@ down-preserved g c =
       pages = λ i le near. h.pages i (omega (arith, near)) near;
       ticks = omega (arith, h.ticks, c.follow.ensures.ticks);
       going = λ r. full_going c.args.self.now.params c.args.self.now.bits r.records c.down.chain c.args.x c.down.page c.down.depth c.in-Some.below
-        (c.in-Some.ensures.leads r) (omega (arith, h.long)) (omega (arith, h.long)) (h.going r);
+          (c.in-Some.ensures.leads r) (omega (arith, h.long)) (omega (arith, h.long)) (h.going r);
     }

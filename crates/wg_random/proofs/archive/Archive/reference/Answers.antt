@@ -9,7 +9,7 @@ reference-requires c =
     let lt = same_nodes _ _ c.self.view_is c.args.page c.requires in
     let h : CheckedRecords = record { params = c.self.inside.params; bits = bits_of c.self.inside.bytes.now; offsets = c.self.inside.offsets.now } in
     record_here h c.args.page c.cursor.result lt (read_of c.self.inside.params (bits_of c.self.inside.bytes.now) _ c.self.invariant.1.1).reading
-      (stands_back h _ c.self.view_is c.args.page c.cursor.result c.cursor.ensures)
+    (stands_back h _ c.self.view_is c.args.page c.cursor.result c.cursor.ensures)
 
 pub returns-clause-refers : goal.returns-clause-refers
 returns-clause-refers c =
@@ -22,4 +22,4 @@ returns-clause-near c =
     let lt = same_nodes _ _ c.self.view_is c.args.page c.requires in
     let h : CheckedRecords = record { params = c.self.inside.params; bits = bits_of c.self.inside.bytes.now; offsets = c.self.inside.offsets.now } in
     (refers_here h c.args.page c.cursor.result c.reference.result lt (stands_back h _ c.self.view_is c.args.page c.cursor.result c.cursor.ensures) c.reference.ensures
-      (read_of c.self.inside.params (bits_of c.self.inside.bytes.now) _ c.self.invariant.1.1).reading).near
+    (read_of c.self.inside.params (bits_of c.self.inside.bytes.now) _ c.self.invariant.1.1).reading).near

@@ -11,7 +11,7 @@ pub begin_on-requires-clause-proper : goal.begin_on-requires-clause-proper
 begin_on-requires-clause-proper c =
     let h : CheckedRecords = record { params = c.self.inside.params; bits = bits_of c.self.inside.bytes.now; offsets = c.self.inside.offsets.now } in
     proper_back h _ c.self.view_is c.args.page c.cursor.result (option_copied c.args.below) c.cursor.ensures c.requires.ready
-      (read_of c.self.inside.params (bits_of c.self.inside.bytes.now) _ c.self.invariant.1.1).reading
+    (read_of c.self.inside.params (bits_of c.self.inside.bytes.now) _ c.self.invariant.1.1).reading
 
 pub returns : goal.returns
 returns c r =

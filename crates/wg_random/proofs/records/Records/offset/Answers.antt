@@ -13,8 +13,13 @@ place-requires c =
 pub returns-clause-count : goal.returns-clause-count
 returns-clause-count c =
     let g = read_of c.self.inside.params (bits_of c.self.inside.bytes.now) _ c.self.invariant.1.1 in
-    omega (arith, ap (λ (h : CheckedRecords). h.params.nodes) c.self.view_is, ap (λ (h : CheckedRecords). length h.offsets) c.self.view_is, offsets_count
-        c.self.inside.params (bits_of c.self.inside.bytes.now) g.reading _ g.places)
+    omega (
+      arith,
+      ap (λ (h : CheckedRecords). h.params.nodes) c.self.view_is,
+      ap (λ (h : CheckedRecords). length h.offsets) c.self.view_is,
+      offsets_count
+          c.self.inside.params (bits_of c.self.inside.bytes.now) g.reading _ g.places,
+    )
 
 pub returns-clause-stands : goal.returns-clause-stands
 returns-clause-stands c = let h = c.self.invariant.1 in subst (λ (v : CheckedRecords). StandsForGraph v) c.self.view_is (h.0, h.1)
