@@ -132,6 +132,7 @@ impl Pages {
     /// Reads the record of the page that comes next, and goes on to the one after it. If it is refused, it stays at
     /// this page. Whatever the answer, no list that it holds is longer than there are pages. It takes time in
     /// proportion to the words of the record, to its list and to the one that it refers to.
+    #[inline(always)]
     pub fn next<S: Source>(&mut self, source: &mut S) -> Result<(), PagesError<S::Refusal>>
         requires more { self.old.page < self.old.params.nodes }
         ensures params { self.new.params ≡ self.old.params }
