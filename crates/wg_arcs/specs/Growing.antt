@@ -37,7 +37,7 @@ pub record SoFar (n : ℕ) (all next : List (List ℕ)) (count : ℕ) (arcs : Li
   pub theirs : arcs ≡ arcs_in done
   pub sound : (i : ℕ) → i < count → fault_at n all i ≡ None
 
--- the same, of the lines that a reading has come to, which knows how many arcs there are, and the last one
+-- the lines that a reading has come to, none of them faulty before; it knows how many arcs there are, and the last one
 pub record IsUpTo (all next : List (List ℕ)) (arcs : List (ℕ × ℕ)) (s : ArcLinesRead) : Type 0 where
   pub lines : SoFar s.nodes all next s.line arcs
   pub last : last_or None arcs ≡ s.last

@@ -131,7 +131,7 @@ impl ArcLines {
         }
     }
 
-    // The same of the first line of a text, and what follows it.
+    // Reads the first line of a text, in any form: its arc, if it has one, and the text after it.
     #[cold]
     #[inline(never)]
     fn read_any<'a>(&mut self, bytes: &'a [u8]) -> Result<(Option<(u64, u64)>, &'a [u8]), ArcsError>
@@ -183,7 +183,7 @@ impl ArcLines {
         }
     }
 
-    // The same, if lines of this page begin with these bytes.
+    // Reads the first line of a text, if lines of this page begin with these bytes: its arc, and the text after it.
     #[inline(always)]
     fn read_next<'a>(
         &mut self,

@@ -87,7 +87,7 @@ abbrev pub IsDecided : List ℕ → Result Digraph (ℕ × AsciiKind) → Type 0
 IsDecided bytes (Ok g) = StandsFor (lines_of bytes) g
 IsDecided bytes (Err fault) = IsFirstFault (lines_of bytes) fault.0 fault.1
 
--- the same, or memory ran out
+-- the text stands for this graph, or this line is its first faulty one, of this kind, or memory ran out
 abbrev pub IsRead : List ℕ → Result Digraph AsciiError → Type 0
 IsRead bytes (Ok g) = StandsFor (lines_of bytes) g
 IsRead bytes (Err (error.Line line kind)) = IsFirstFault (lines_of bytes) line kind

@@ -101,7 +101,8 @@ fn read_any<'a>(
     Ok(after)
 }
 
-/// The same; a line in the form in which it is written is read by one pass.
+/// Reads the successors of a page from the first line, and answers the text after it. A line in the form in which it is
+/// written is read by one pass.
 #[inline(always)]
 pub fn read_first<'a>(
     list: &mut List,

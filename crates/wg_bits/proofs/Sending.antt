@@ -22,7 +22,7 @@ sent d a b n w p x y h = record { ok = h.ok; err = λ t. tt; refusals = file_don
 pub sends_kept : {D A : Type 0} (d : depot.Ghosts D) (a : D) (n : List ℕ) (w p x : List Bool) (y : A) → x ≡ w ++ p → Sends d a a n w p x (Ok y)
 sends_kept d a n w p x y e = record { ok = λ t. put_kept _ _ w p x e; err = λ t. tt; refusals = file_done _ _ _ _ (none_falls-refl _) }
 
--- the same bits
+-- what goes out may be named by equal bits
 pub sends_as : {D A : Type 0} (d : depot.Ghosts D) (a b : D) (n : List ℕ) (w p q x : List Bool) (r : Result A WriteError) → p ≡ q → Sends d a b n w p x r → Sends d a b n w q x r
 sends_as d a b n w p q x r e h = subst (λ (z : List Bool). Sends d a b n w z x r) e h
 

@@ -95,7 +95,7 @@ fn weighed_input<'a>(base: &'a Name, weights: &'a Name, input: Input) -> Option<
     }
 }
 
-// The same, or the name of a certificate.
+// The name of one of the files of an archive's records, of the weights or of the certificate.
 fn verify_input<'a>(
     base: &'a Name,
     certificate: &'a Name,

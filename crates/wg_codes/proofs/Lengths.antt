@@ -90,6 +90,6 @@ field_behind k v h least some few l e el =
           (r.2, zeta_put k v h _ e (sym (cond-false _ _ _ (le-ltb _ _ long))))),
     )
 
--- the same, as the writer comes to its numbers: m is the index of the highest one
+-- the field of a zeta word, as the writer computes it: h is the index of the highest one, divided by k
 pub zeta_field : (k v h : ℕ) → 1 ≤ k → k ≤ 31 → v ≤ zeta_top k → h ≡ highest (v + 1) / k → IsField k v h ((1 * 2 ^ (h * k)) % 2 ^ 64)
 zeta_field k v h some few l eh = field_behind k v h _ some few l eh (least_is k h some (head_room k v h some few l eh).0)

@@ -29,8 +29,8 @@ pub fn read(code: Code, cursor: &mut Cursor<'_>) -> Read
     read_long(code, cursor)
 }
 
-// The same for any word. Two numbers and a tag are handed back in memory, which is cleared where the function that asks
-// for them begins: so this is a function of its own.
+// Reads a word of any length. Two numbers and a tag are handed back in memory, which is cleared where the function that
+// asks for them begins: so this is a function of its own.
 #[inline(always)]
 fn read_long(code: Code, cursor: &mut Cursor<'_>) -> Read
     requires { IsCode code }

@@ -52,7 +52,7 @@ pub fn word_in(window: u64, most: u64) -> Option<Word>
     })
 }
 
-// The same for any word: the unary word first, and then the low bits.
+// Reads a word of any length: the unary word first, and then the low bits.
 #[cold]
 #[inline(never)]
 fn read_in_steps(cursor: &mut Cursor<'_>, most: u64) -> Read

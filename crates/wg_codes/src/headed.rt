@@ -52,7 +52,7 @@ pub fn put_headed<D: Depot>(
     put_in_two(writer, depot, name, head, field, width)
 }
 
-// The same of any head: the zeros first.
+// Writes a head of any length and its field in two calls: the zeros first.
 #[cold]
 #[inline(never)]
 fn put_in_two<D: Depot>(

@@ -54,7 +54,7 @@ pub fn word_in(window: u64, most: u64) -> Option<Word>
     })
 }
 
-// The same for any word: the zeros first, and then the one.
+// Reads a word of any length: the zeros first, and then the one.
 #[cold]
 #[inline(never)]
 fn read_in_steps(cursor: &mut Cursor<'_>, most: u64) -> Read

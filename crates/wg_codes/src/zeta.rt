@@ -64,7 +64,7 @@ pub fn word_in(window: u64, k: u32) -> Option<Word>
     })
 }
 
-// The same for any word: the unary word of the head first, and then the shortened form.
+// Reads a word of any length: the unary word of the head first, and then the shortened form.
 #[cold]
 #[inline(never)]
 fn read_in_steps(cursor: &mut Cursor<'_>, k: u32) -> Read

@@ -12,7 +12,7 @@ use wg_bits::Cursor;
 use wg_grammar::{Fault, Source};
 use wg_params::{Layout, Params};
 
-// The same parameters without a limit on chains.
+// These parameters, without a limit on chains.
 fn endless(params: &Params) -> Params
     ensures { result ≡ endless params.now }
 {
@@ -58,7 +58,7 @@ pub fn head_from<S: Source>(
     read_head(&params, page, arcs_before, &nothing, source)
 }
 
-/// The same of the record at a cursor, which refuses no word.
+/// Like [`head_from`], for the record at a cursor, which refuses no word.
 pub fn head(params: &Params, page: u64, arcs_before: u64, cursor: Cursor<'_>) -> Result<Head, Fault>
     requires page { page < params.now.nodes }
     requires before { arcs_before ≤ params.now.arcs }

@@ -52,7 +52,7 @@ stays_few p c list choice before limits here proper fits is few =
       room = omega (arith, bits, few, fits, arcs, nodes, here);
     }
 
--- the same by the encoder as it was
+-- the bits stay few with those of this record, by the encoder as it was
 pub stays_few_at : (e v : Encoded) (list : List ℕ) (choice : Choice) → v ≡ e → IsWithinLimits e.params → e.next.page < e.params.nodes → IsList e.params list → e.next.arcs_before + length list ≤ e.params.arcs → IsChosen e.params e.next list choice
     → v.total ≤ enough_bits v.next.page v.next.arcs_before → StaysFew v.next list v.total choice.bits
 stays_few_at e v list choice same limits here proper fits is few =

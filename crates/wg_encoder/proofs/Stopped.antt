@@ -44,7 +44,7 @@ begun p files base w v none none' graph offsets =
 abbrev pub next_word : Encoded → List Bool
 next_word e = word e.params.offsets e.last
 
--- the same word, by the name that a call has of the file, and by the encoder as it was
+-- the next word is put, by the name that a call has of the file, and by the encoder as it was
 pub word_put : (a b : Files) (base name : List ℕ) (e v : Encoded) (x : List Bool) → v ≡ e → name ≡ offsets_name base → HasPut a b name v.offsets_waits (next_word v) x → HasPut a b (offsets_name base) e.offsets_waits (next_word e) x
 word_put a b base name e v x same is h =
     subst (λ (y : Encoded). HasPut a b (offsets_name base) y.offsets_waits (next_word y) x) same (subst (λ n. HasPut a b n v.offsets_waits (next_word v) x) is h)
@@ -183,7 +183,7 @@ stopped_on_offsets a b base e lists more old new why less failed written h =
           subst (HasStopped b base p all) (sym m) (let both : HoldsFront (fin.get b (graph_name base)) (graph_file p all) × HoldsLess (fin.get b (offsets_name base)) (offsets_file p all) = (graph, offsets) in inr both)
     ]
 
--- the same if no list follows
+-- memory ran out, and no list follows
 pub all_stopped_by_memory : (files : Files) (base : List ℕ) (e : Encoded) (lists : List (List ℕ)) (why : EncodeError) → HasSentAll files base e lists → why ≡ error.Memory → HasStopped files base e.params lists why
 all_stopped_by_memory files base e lists why h is = subst (λ ls. HasStopped files base e.params ls why) (append-nil lists) (stopped_by_memory files base e lists [] why h is)
 

@@ -25,7 +25,7 @@ dues_of_blocks t blocks = if t.is_written
     then written field.BlockCount t.counts (t.count + length blocks) ∷ map (written field.Block t.code)
     (stored_after t.count blocks) else []
 
--- the same, if this mask comes
+-- the count of all blocks and those that come, if this mask comes
 abbrev pub block_dues : BlockTally → List Bool → List Written
 block_dues t mask = dues_of_blocks t (blocks_from t.run mask)
 
@@ -52,7 +52,7 @@ dues_of_runs t found runs =
     ++ interval_dues t.intervals (filter (is_long t.intervals.least) runs))
     ++ residual_dues t.residuals (flat_map numbers_of (filter (λ r. not (is_long t.intervals.least r)) runs))
 
--- the same, if these numbers come
+-- the intervals and residuals that are due, if these numbers come
 abbrev pub extra_dues : ExtraTally → List ℕ → List Written
 extra_dues t numbers = dues_of_runs t (has_some (numbers_of t.run ++ numbers)) (runs_from t.run numbers)
 

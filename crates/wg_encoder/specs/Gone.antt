@@ -34,11 +34,11 @@ pub record HasSentLists (files : Files) (base : List ℕ) (p : Parameters) (list
   pub records : HasSent (fin.get files (graph_name base)) graph_waits (graph_bits p lists)
   pub words : HasSent (fin.get files (offsets_name base)) offsets_waits (words_before p lists)
 
--- the same of an encoder of lists
+-- what an encoder of lists has sent: the records of these lists, and the words of the offsets but the one that is due
 abbrev pub HasSentAll : Files → List ℕ → Encoded → List (List ℕ) → Type 0
 HasSentAll files base e lists = HasSentLists files base e.params lists e.graph_waits e.offsets_waits
 
--- and of an encoder of a graph, where the lists are those of the pages before this one
+-- what an encoder of a graph has sent, where the lists are those of the pages before this one
 abbrev pub HasSentUpTo : Files → List ℕ → Encoding → Type 0
 HasSentUpTo files base e = HasSentLists files base e.params (lists_before e) e.graph_waits e.offsets_waits
 
@@ -83,7 +83,7 @@ HasFailed base old new (error.Failed output.Properties) = ⊥
 HasFailed base old new (error.Failed output.Certificate) = ⊥
 HasFailed base old new (error.Failed output.Out) = ⊥
 
--- the same of a call on one file
+-- a call on one file failed, and only if the count of its failures increased; or memory ran out
 abbrev pub HasFailedOn : Output → ℕ → ℕ → EncodeError → Type 0
 HasFailedOn named before now e = ((e ≡ error.Failed named) × Increased before now) ⊎ (e ≡ error.Memory)
 

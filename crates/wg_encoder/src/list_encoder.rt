@@ -219,7 +219,7 @@ impl ListEncoder {
         )
     }
 
-    // The same, whatever it is.
+    // What the record takes by a reference, whatever it is, if each value has a word.
     fn size(&self, list: &[u64], r: u64) -> Option<u64>
         requires page { self.now.next.page < self.now.params.nodes }
         requires list { IsList self.now.params list.now }
@@ -254,9 +254,9 @@ impl ListEncoder {
         self.size(list, r)
     }
 
-    // The same of a reference but 0, if it is wanted only below `most`, which is no more than what the record takes
-    // without a reference. So a page that has no successor of the list is not looked at any further: nothing is copied,
-    // and no reference has a shorter word than 0.
+    // What the record takes by a reference but 0, if this is a candidate, and if it is wanted only below `most`, which
+    // is no more than what the record takes without a reference. So a page that has no successor of the list is not
+    // looked at any further: nothing is copied, and no reference has a shorter word than 0.
     #[inline(always)]
     fn offer_below(&self, list: &[u64], r: u64, most: u64) -> Option<u64>
         requires page { self.now.next.page < self.now.params.nodes }

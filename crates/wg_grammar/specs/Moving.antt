@@ -2,7 +2,7 @@
 use Rattle.std.proofs.Common.{◌≡◌, ◌∙◌, ◌≤◌, Bool, List, refl, arith}
 use Rattle.wg_bits.specs.Bits.{Position}
 
--- the same bits, and an offset that is no smaller
+-- b has the bits of a, and an offset that is no smaller
 pub record MovedOn (a b : Position) : Type 0 where
   pub bits : b.bits ≡ a.bits
   pub at : a.at ≤ b.at

@@ -22,7 +22,7 @@ impl Split {
         made
     }
 
-    // The same, but an error leaves the first of the parts.
+    // Splits other numbers; an error leaves the first of the parts.
     fn refill(&mut self, extras: &[u64], interval: u64) -> Result<(), AllocError>
         requires { Ascends 0 extras.now }
         ensures intervals { OnOk result (self.new.intervals ≡ ends_and_lengths (intervals_of interval extras.now)) }

@@ -38,7 +38,7 @@ steady_files_code =
     (λ p. record { files = p.0; piece = p.1.0; absences = p.1.1.0; wants = p.1.1.1 })
     (λ _. refl)
 
--- the same with calls that are to fail
+-- a depot in memory, as above, and its calls that are to fail
 pub record FailingFiles : Type 0 where
   pub steady : SteadyFiles
   pub reads : Calls
@@ -89,7 +89,7 @@ pub record SteadyBytes : Type 0 where
 abbrev pub steady_refusals : SteadyBytes → Refusals
 steady_refusals s = record { faults = 0; wants = s.wants }
 
--- the same with a call that is to fail
+-- a sink in memory, its write that is to fail, and how often one failed
 pub record FailingBytes : Type 0 where
   pub steady : SteadyBytes
   pub writes : Calls

@@ -186,8 +186,8 @@ impl<'a> Successors<'a> {
         }
     }
 
-    /// The same over a list: `below` is that of the page that the record refers to, if it has a reference. So no other
-    /// record is read, however many references lead on from it.
+    /// Like [`Successors::begin`], over a list: `below` is that of the page that the record refers to, if it has a
+    /// reference. So no other record is read, however many references lead on from it.
     pub fn begin_on(
         params: &Params,
         page: u64,

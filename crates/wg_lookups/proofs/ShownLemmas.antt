@@ -86,7 +86,7 @@ if_always (Err e) p = tt
 pub none_opened : (p : Parameters) (bits : List Bool) (pages : List ℕ) (n : ℕ) (r : Result (Unit {0}) Ending) (e : Ending) → IsErrAnd r (λ x. x ≡ e) → OpensChains p bits pages n n r
 none_opened p bits pages n r e is = rw (is_that_err r e is) record { each = λ w. tt; most = λ w. omega arith }
 
--- the same records, by other names
+-- the records that are opened, by other names of the parameters, the bits and the pages
 pub opened_as : (p q : Parameters) (bits file : List Bool) (pages asked : List ℕ) (from to : ℕ) (r : Result (Unit {0}) Ending) → p ≡ q → bits ≡ file → pages ≡ asked → OpensChains p bits pages from to r → OpensChains q file asked from to r
 opened_as p q bits file pages asked from to r params same all h =
     subst (λ (ps : List ℕ). OpensChains q file ps from to r) all

@@ -27,7 +27,7 @@ pub record ReadsOn (told : Bool) (files files' : Files) (counts counts' : List �
   pub offsets : s' ≡ s
   pub steps : Steps told g.name files files' counts counts' g.held g'.held
 
--- The same, if both were read, at any places.
+-- From one moment to a later one both files were read, at any places.
 pub record ReadsBoth (told : Bool) (files files' : Files) (counts counts' : List ℕ → Counts) (g g' : FoundFile)
     (s s' : SampledFile) : Type 0 where
   pub name : g'.name ≡ g.name

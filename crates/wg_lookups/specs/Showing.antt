@@ -45,7 +45,7 @@ pub record HoldsGraphFile (held : Input → Option (List ℕ)) (p : Parameters) 
   pub properties : IsPropertiesFile (held input.Properties) p
   pub graph : held input.Graph ≡ Some bytes
 
--- the same of an archive in a depot
+-- the records of the chains of these pages are opened, of an archive in a depot
 abbrev pub OpensChainsBy : {D : Type 0} → depot.Ghosts D → List ℕ → List ℕ → D → ℕ → ℕ → Result (Unit {0}) Ending
     → Type 0
 OpensChainsBy d base pages before from to result =

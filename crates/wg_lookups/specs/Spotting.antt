@@ -34,7 +34,7 @@ abbrev pub successors_then : Readings → Parameters → List ℕ → ℕ → Op
 successors_then r p places page held next =
     with_file input.Graph held (λ bytes. with_successors r p bytes places page next)
 
--- the same, by the places that the offsets file stores
+-- goes on with the successors of a page, by the places that the offsets file stores
 abbrev pub spotted_then : Readings → Parameters → ℕ → Option (List ℕ) → Option (List ℕ) → (List ℕ → Judged) → Judged
 spotted_then r p page stored held next = offsets_then r p stored (λ places. successors_then r p places page held next)
 
@@ -69,7 +69,7 @@ OpensChain p bits places page from to (Ok list) = ChainAnswers {R = Unread} p bi
 OpensChain p bits places page from to (Err e) =
     (to ≡ from) ⊎ ((why : PagesError Unread) × ChainAnswers p bits places page from to (Err why))
 
--- The same of an archive, by the places that a validation finds in its offsets file.
+-- The records of a page's chain were opened, by the places that a validation finds in the archive's offsets file.
 pub record IsChainOpened (held : Input → Option (List ℕ)) (p : Parameters) (bytes : List ℕ) (page from to : ℕ)
     (answer : Result (List ℕ) (PagesError Unread)) : Type 0 where
   pub places : List ℕ

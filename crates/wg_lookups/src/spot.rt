@@ -38,7 +38,7 @@ pub fn spot<D: Depot, O: Sink>(
     uncounted::<Brand, D, O>(alloc, base, page, depot, out, Blank::new(1))
 }
 
-// The same by a count of its own.
+// Prints the successors of a page, with a count of its own.
 fn uncounted<L: Ledger, D: Depot, O: Sink>(
     alloc: Global,
     base: &Name,

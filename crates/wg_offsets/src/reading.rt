@@ -43,7 +43,7 @@ fn error_of(error: PlacesError<Infallible>) -> OffsetsError
     }
 }
 
-// The same from any source of words, which stands at its first bit.
+// Reads the offsets from any source of words, which stands at its first bit.
 pub(crate) fn read_from<S: Source>(
     alloc: Global,
     source: &mut S,

@@ -105,7 +105,7 @@ produced job td to before after files counts what text r writes is same later h 
     due : IsTrue td → (q : Readings) → written_by q job (held_by (input_name job) before.files) ≡ Some what
     due t q = ap (λ (b : Bool). if b then files_of (judged_on q job before.files) else None) writes ∙ (is t q).2
 
--- the same of the archive of a graph
+-- a job that wrote the archive of a graph was performed
 pub written : (job : Job) (td to : Bool) (before after : Outside) (files : Files) (counts : List ℕ → Counts) (l : Layout) (g : Digraph) (base : List ℕ) (r : Result (Unit {0}) Ending)
     → writes_files job ≡ true
     → archive_named base ≡ output_name job

@@ -85,20 +85,20 @@ pub record Performs (job : Job) (told_files told_out : Bool) (before after : Out
   -- the number is promised, if the line of the status names it
   pub promised : IsTrue told_files → ArePromised (held_by (input_name job) before.files) status number
 
--- the same, of a depot and an output that a function changes
+-- a job is performed by a function that changes a depot and an output
 abbrev pub Does : {D O : Type 0} → depot.Ghosts D → sink.Ghosts O → Job → D → D → O → O → Status → ℕ → Type 0
 Does d o job before after out out' status number =
     Performs job d.told o.told (outside (d.files before) (d.counts before) (o.taken out) (out_counts o out))
     (outside (d.files after) (d.counts after) (o.taken out') (out_counts o out')) status number
 
--- the same of a command, which was done or has ended
+-- a job is performed by a command, which was done or has ended
 pub record DoesOrEnds {D O : Type 0} (d : depot.Ghosts D) (o : sink.Ghosts O) (job : Job) (before after : D)
     (out out' : O) (result : Result (Unit {0}) Ending) : Type 0 where
   pub does : Does d o job before after out out' (status_in result) (promised_in result)
   -- the output comes of the one before by writing on
   pub later : o.later out out'
 
--- the same of a command without files: it makes no call of a depot, whatever the depot holds
+-- a job is performed by a command without files: it makes no call of a depot, whatever the depot holds
 abbrev pub DoesAlone : {O : Type 0} → sink.Ghosts O → Job → O → O → Result (Unit {0}) Ending → Type 0
 DoesAlone o job out out' result =
     (told : Bool) (files : Files) (counts : List ℕ → Counts)
@@ -141,7 +141,7 @@ CertifiesRanking b name top told_files told_out before after result =
     Produces (certificate_to name) (a_certificate (certificate_text b)) (λ r. ranking_text r b top)
     told_files told_out before after result
 
--- the same, of a depot and an output that a function changes
+-- the greedy archive of a graph, and its line, by a function that changes a depot and an output
 abbrev pub Builds : {D O : Type 0} → depot.Ghosts D → sink.Ghosts O → Layout → Digraph → List ℕ → D → D → O → O
     → Result (Unit {0}) Ending → Type 0
 Builds d o l g base before after out out' result =

@@ -92,7 +92,7 @@ pub record PrintsRankingOf (r : Readings) (graph : Digraph) (given : Option (Lis
   pub printed : new ≡ old ++ ranking_text r (bounds_after graph given damping rounds) top
   pub proven : IsProvenRanking r (bounds_after graph given damping rounds) graph
 
--- The same of the graph that the files stand for, by the weights that they hold.
+-- What is printed is the proven ranking of the graph that the files stand for, by the weights that they hold.
 pub record PrintsProvenRanking (r : Readings) (held : Input → Option (List ℕ)) (weights : Option (List ℕ))
     (rounds damping top : ℕ) (old new : List ℕ) : Type 0 where
   pub graph : Digraph

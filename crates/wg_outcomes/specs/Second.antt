@@ -9,14 +9,14 @@ use Rattle.wg_outcomes.specs.declared.status.SecondFault.TheVariants as second
 use Rattle.wg_outcomes.specs.declared.status.Status.{Status}
 use Rattle.wg_outcomes.specs.declared.status.Status.TheVariants.{ReadFault, Missing, BadProperties, BadArchive, BadSecond, OverLimit}
 
--- the same file of the second archive
+-- the file of the second archive that corresponds to one of the first
 abbrev pub second_input : Input → Input
 second_input input.Properties = input.SecondProperties
 second_input input.Graph = input.SecondGraph
 second_input input.Offsets = input.SecondOffsets
 second_input i = i
 
--- the same end at a file of the second archive
+-- an end at a file of an archive, as one at that file of the second archive
 abbrev pub as_second : Status → Status
 as_second (ReadFault i) = ReadFault (second_input i)
 as_second (Missing i) = Missing (second_input i)

@@ -53,7 +53,7 @@ pub record PrintsGapOf (graph : Digraph) (given : Option (List ℕ)) (claim : Cl
   pub printed : new ≡ old ++ verified_line claim left
   pub leaves : Leaves graph claim given left
 
--- The same of the certificate, the graph and the weights that the files hold.
+-- What is printed is what the bounds leave of 1, by the certificate, the graph and the weights that the files hold.
 pub record PrintsProvenGap (r : Readings) (held : Input → Option (List ℕ)) (weights : Option (List ℕ))
     (old new : List ℕ) : Type 0 where
   pub graph : Digraph

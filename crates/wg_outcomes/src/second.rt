@@ -4,7 +4,7 @@ ghost use Rattle.wg_outcomes.specs.Second.{second_input, as_second, second_endin
 
 use crate::{Ending, Input, SecondFault, Status};
 
-/// The same file of the second archive.
+/// The file of the second archive that corresponds to one of the first.
 pub fn second_input(input: Input) -> Input
     ensures { result ≡ second_input input }
 {
@@ -16,7 +16,7 @@ pub fn second_input(input: Input) -> Input
     }
 }
 
-// The same end at a file of the second archive.
+// An end at a file of an archive, as one at that file of the second archive.
 fn second_status(status: Status) -> Status
     ensures { result ≡ as_second status }
 {

@@ -5,7 +5,7 @@ pub enum Code {
     Unary,
     /// With y one more than the number: the unary word of the index of its highest one, then the bits below that.
     Gamma,
-    /// The same with the gamma word of that index.
+    /// With y one more than the number: the gamma word of the index of its highest one, then the bits below that.
     Delta,
     /// The unary word of that index by k, then the bits below, in k bits for each that is counted, or one fewer.
     Zeta(u32),

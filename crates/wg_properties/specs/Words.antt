@@ -19,7 +19,7 @@ front_of BlockCounts = codes "BLOCK_COUNT_"
 front_of Residuals = codes "RESIDUALS_"
 front_of Offsets = codes "OFFSETS_"
 
--- and the end
+-- the end of a flag's word
 unfoldable pub end_of : Form → List ℕ
 end_of Unary = codes "UNARY"
 end_of Gamma = codes "GAMMA"

@@ -168,7 +168,7 @@ answers_in : (j : Judged) (text : List ℕ) (r : Result (Unit {0}) Ending) → j
 answers_in j text (Ok done) is h = inl (sym (ap status_of is))
 answers_in j text (Err e) is h = inr h
 
--- the same cause, by the names of the job
+-- the cause of a pass's end, by the names of the job
 pass_caused : (names inputs : Input → Option (List ℕ)) (outputs : Output → Option (List ℕ)) (n : ℕ) (old mid new : List ℕ → Counts) (f f' : ℕ) (r : Result (Unit {0}) Ending) → inputs Graph ≡ names Graph
     → IfErr r (StopsOrUnput n) → NonDecreasing old mid → HasCause names no_outputs mid new f f' (status_in r) → HasCause inputs outputs old new f f' (status_in r)
 pass_caused names inputs outputs n old mid new f f' (Ok done) named only later h = unput_cause inputs outputs old new f f' (Ok done) tt h.out_fault

@@ -68,7 +68,7 @@ pub record PrintsGraph (base : List ℕ) (p : Parameters) (text : Accepted → L
       → IsGraphFile (held_by (file_of base) before.files input.Graph) p a
       → PutsUpTo (text a) before.taken after.taken result
 
--- the same, of a depot and an output that a function changes
+-- a pass that prints a text of its graph, by a function that changes a depot and an output
 abbrev pub PrintsAgain : {D O : Type 0} → depot.Ghosts D → sink.Ghosts O → List ℕ → Parameters → (Accepted → List ℕ)
     → D → D → O → O → Result (Unit {0}) Ending → Type 0
 PrintsAgain d o base p text before after out out' result =

@@ -152,7 +152,7 @@ pushed_going p bits ws chain new x page below is there link g =
     (λ near. put)
     g (omega (arith, len)))
 
--- the same chain, lent
+-- a chain that has ended, as it is lent
 pub ended_as : (p : Parameters) (bits : List Bool) (ws : List Whole) (chain lent : List ℕ) (x : ℕ) → lent ≡ chain → Ended p bits ws chain x (length chain - 1)
     → Ended p bits ws lent x (length lent - 1)
 ended_as p bits ws chain lent x is h = subst (λ (l : List ℕ). Ended p bits ws l x (length l - 1)) (sym is) h

@@ -27,7 +27,7 @@ ChainAnswers p bits offsets x from to (Err Memory) = (chain : List ℕ) × IsCha
 ChainAnswers p bits offsets x from to (Err (Refused r)) = (chain : List ℕ) × IsChain p bits offsets x chain
     × (to ≤ from + length chain)
 
--- The same of bits in memory, which refuse no word. There may be no such page.
+-- The list of page x, or why there is none, of bits in memory, which refuse no word. There may be no such page.
 abbrev pub SpotAnswers : Parameters → List Bool → List ℕ → ℕ → ℕ → ℕ → Result (List ℕ) SpotError → Type 0
 SpotAnswers p bits offsets x from to (Ok list) =
     (x < p.nodes) × (zs : List ℕ) × (k : Known) × ChainReads p bits offsets x zs (Ok k) × (list ≡ k.list)

@@ -126,9 +126,9 @@ pub fn spot_from<L: Ledger, S: Located>(
     climb(alloc, params, chain.as_slice(), source)
 }
 
-/// The same of a graph file in memory, where a page that does not exist is an error. If chains have a limit, a page
-/// with a list has no more references than that; one with a fault may have more, since the heads are validated with no
-/// limit.
+/// Like [`spot_from`], for a graph file in memory, where a page that does not exist is an error. If chains have a
+/// limit, a page with a list has no more references than that; one with a fault may have more, since the heads are
+/// validated with no limit.
 pub fn spot<L: Ledger>(
     alloc: Global,
     bytes: &[u8],

@@ -104,7 +104,7 @@ IsRead told (Ok x) = told ≡ Ok x
 IsRead told (Err (error.Fault f)) = told ≡ Err f
 IsRead told (Err error.Memory) = Unit {0}
 
--- the same of bounds in a vector
+-- a text gives these bounds, in a vector, or it has this first fault, or memory ran out
 abbrev pub AreRead : Result (List ℕ) CertFault → Result (Vec ℕ Global) CertError → Type 0
 AreRead told (Ok x) = told ≡ Ok x.items
 AreRead told (Err (error.Fault f)) = told ≡ Err f

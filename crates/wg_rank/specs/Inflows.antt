@@ -12,7 +12,7 @@ low_flows [] = []
 low_flows (low ∷ []) = []
 low_flows (low ∷ high ∷ rest) = low ∷ low_flows rest
 
--- and the second ones are sums of upper bounds
+-- the second numbers are sums of upper bounds
 abbrev pub high_flows : List ℕ → List ℕ
 high_flows [] = []
 high_flows (low ∷ []) = []

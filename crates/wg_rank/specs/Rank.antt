@@ -25,7 +25,7 @@ sum_dangling g f = total g (λ u. cond (outdegree g u == 0) (f u) 0)
 abbrev pub low_flow : Digraph → (ℕ → ℕ) → ℕ → ℕ
 low_flow g l v = sum_in g (λ u. l u / outdegree g u) v
 
--- and rounded up
+-- what flows to page v along arcs, each page's share rounded up
 abbrev pub high_flow : Digraph → (ℕ → ℕ) → ℕ → ℕ
 high_flow g h v = sum_in g (λ u. div_ceil (h u) (outdegree g u)) v
 
@@ -35,7 +35,7 @@ lower g a w l v =
     a * low_flow g l v / 1000
     + (a * sum_dangling g l / (1000 * g.nodes) + (1000 - a) * UNITS * w v / (1000 * total g w))
 
--- the same, each part rounded up
+-- what page v gets along arcs, from the dangling pages and by teleport, each part rounded up
 abbrev pub upper : Digraph → ℕ → (ℕ → ℕ) → (ℕ → ℕ) → ℕ → ℕ
 upper g a w h v =
     div_ceil (a * high_flow g h v) 1000

@@ -69,7 +69,7 @@ impl Bounds {
         Bounds::begin(alloc, n, damping, List::new(alloc))
     }
 
-    /// The same, if teleport goes to the pages by their weights, of which they keep a copy.
+    /// Like [`Bounds::new`], but teleport goes to the pages by their weights, of which they keep a copy.
     pub fn weighted(
         alloc: Global,
         n: u64,

@@ -19,7 +19,7 @@ pub(crate) fn whole_quotient(value: u128, by: u64) -> u128
     value / by as u128
 }
 
-// The same, rounded up.
+// The quotient of any number, rounded up.
 #[cold]
 #[inline(never)]
 pub(crate) fn whole_quotient_up(value: u128, by: u64) -> u128
@@ -57,7 +57,7 @@ pub(crate) fn damped(damping: u64, flow: u128) -> u128
     damped_with(damping, flow, 0)
 }
 
-// The same, rounded up.
+// What a damping in thousandths leaves of what flows to a page, rounded up.
 #[inline(always)]
 pub(crate) fn damped_up(damping: u64, flow: u128) -> u128
     requires damped { damping ≤ MOST_DAMPING }

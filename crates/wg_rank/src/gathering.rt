@@ -92,7 +92,7 @@ impl<L: Lists> Gather for L {
     }
 }
 
-// The same below alone, if `inflows` has one sum for each page.
+// Gathers the sums of the lower bounds alone, if `inflows` has one sum for each page.
 pub(crate) fn gather_low<L: Lists>(lists: &mut L, low: &[u128], inflows: &mut [u128]) -> u128
     requires few { length low.now ≤ MOST_PAGES }
     requires pages { (L.graph lists.old).nodes ≡ length low.now }

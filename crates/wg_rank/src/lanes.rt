@@ -57,7 +57,7 @@ fn rise(sums: &[u64x4], from: usize, to: usize) -> (u128, u128)
     from_lanes(sums[to] - sums[from])
 }
 
-// The same of any pages that follow one another.
+// What pages that follow one another give in all, however many they are.
 pub(crate) fn rise_in_parts(sums: &[u64x4], from: usize, to: usize) -> (u128, u128)
     requires ordered { from ≤ to }
     requires within { to < length sums.now }

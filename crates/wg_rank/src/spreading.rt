@@ -27,7 +27,7 @@ pub(crate) fn spread(inflows: &mut [u128], list: &[u64], below: u128, above: u12
     }
 }
 
-// The same below alone, if there is one sum for each page.
+// Adds a page's share below to the sum of each listed page, if there is one sum for each page.
 #[tactic(auto, using(crate::proofs::Spread::below_at))]
 #[inline(always)]
 pub(crate) fn spread_low(sums: &mut [u128], list: &[u64], share: u128)

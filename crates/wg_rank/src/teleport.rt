@@ -38,7 +38,7 @@ fn weighted_below(shared: u128, parts: u128, weight: u64) -> u128
     shared * u128::from(weight) / parts
 }
 
-// The same, rounded up.
+// A weight's part, rounded up.
 #[inline(never)]
 fn weighted_above(shared: u128, parts: u128, weight: u64) -> u128
     requires few { shared ≤ 1000 * UNITS }
@@ -67,7 +67,7 @@ pub(crate) fn part_below(shared: u128, parts: u128, even: u128, weights: &[u64],
     weighted_below(shared, parts, weights[v])
 }
 
-// The same, rounded up.
+// What page `v` gets of what teleport shares out, rounded up. A weight of 1 gets `even`, one of `parts`.
 #[inline(always)]
 pub(crate) fn part_above(shared: u128, parts: u128, even: u128, weights: &[u64], v: usize) -> u128
     requires few { shared ≤ 1000 * UNITS }

@@ -46,7 +46,7 @@ pub performs_exit : {B : Type 0} (job : Job) (td to : Bool) (before after : Outs
     → Performs job td to before after e.status e.promised → Performs job td to before after (status_in r) (promised_in r)
 performs_exit job td to before after r e is h = subst (λ x. Performs job td to before after (status_in x) (promised_in x)) (sym (is_that_err r e is)) h
 
--- the same before anything is printed
+-- the exit of a `?` before anything is printed
 pub does_exit : {D O : Type 0} (d : depot.Ghosts D) (o : sink.Ghosts O) (job : Job) (before after : D) (out : O) (r : Result (Unit {0}) Ending) (e : Ending) → ((a : O) → o.later a a) → IsErrAnd r (λ x. x ≡ e)
     → Does d o job before after out out e.status e.promised → DoesOrEnds d o job before after out out r
 does_exit d o job before after out r e stays is h = record {
@@ -227,7 +227,7 @@ module _ (job : Job) (base : List ℕ) (td to : Bool) (before : Outside) where
             (λ t r. subst (λ (j : Judged). Answers j e.status) (sym (judges_here t r)) (h.refused t r (λ b. next b r held))) (file_of base) i (IsBadFile i p.arcs) named has h.only
             (cause_later (file_of base) before.counts counts after.counts e.status k.later h.causes) reaches (bad_refuses job i p.arcs e has) (λ t bad. bad_promised held p i e (k.given t) bad)
 
-        -- the same, of what was read
+        -- what was read of it ends the job
         pub ends_reading : {A : Type 0} → IsTrue (is_some (file_of base i)) → (after : Outside) (e : Ending) → after.taken ≡ before.taken
             → Reads {A = A} {B = B} base i p.arcs step td files after.files counts after.counts (Err e) → Performs job td to before after e.status e.promised
         ends_reading there after e silent h = ends there after e silent h.same h.later h.ends

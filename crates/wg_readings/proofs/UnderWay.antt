@@ -137,7 +137,7 @@ module _ (told : Bool) (base : List ℕ) (p : Parameters) (files : Files) (count
         let k = there_by t f.0 f.1 in
         (accepted_of k.0, record { file = f.0; is = ap (λ (n : List ℕ). map.get files n) (sym h.name) ∙ f.1; judged = judged t files h.same f.0 f.1 k.0 k.1 })
 
-    -- the same, of a file that stands for a graph: the records that were read are all of its records
+    -- of a file that stands for a graph, the records that were read are all of its records
     pub all_read : IsWithinLimits p
         → (IsTrue told → (held : Files) → files1 ≡ held → (file : List ℕ) → map.get held a.name ≡ Some file → (whole : List Whole) → IsInStep file a whole → IsJudged file p (Ok (accepted_of whole)))
         → IsTrue told → (x : Accepted) → IsGraphFile (held_by (file_of base) files Graph) p x → (whole : List Whole) × P whole × (x ≡ accepted_of whole)

@@ -209,7 +209,7 @@ pub record JudgesFiles (base : List ℕ) (p : Parameters) (told : Bool) (files f
   pub same : files' ≡ files
   pub later : NonDecreasing counts counts'
 
--- The same relations, of a depot that a function changes.
+-- The relations above, of a depot that a function changes.
 abbrev pub LoadsBy : {D : Type 0} → depot.Ghosts D → (Input → Option (List ℕ)) → Input → D → D
     → Result (List ℕ) Ending → Type 0
 LoadsBy d names i before after result =

@@ -94,7 +94,7 @@ later_cause told name1 name2 f1 f2 c1 c2 c3 h1 h2 e same a b =
 moved_small : (g h : HeldBytes) (n : ℕ) → g.at ≤ n → h ≡ record g { at = n } → IsSmall g → IsSmall h
 moved_small g h n on e s = subst IsSmall (sym e) (record { few = s.few; from = omega (arith, s.from, on) })
 
--- the same bytes are held, and the offset is a later one
+-- a step may go on to a later offset, if the same bytes are held
 pub then_moved : (told : Bool) (name : List ℕ) (f1 f2 : Files) (c1 c2 : List ℕ → Counts) (h1 h2 h3 : HeldBytes) (n : ℕ)
     → h2.at ≤ n → Steps told name f1 f2 c1 c2 h1 h2 → h3 ≡ record h2 { at = n } → Steps told name f1 f2 c1 c2 h1 h3
 then_moved told name f1 f2 c1 c2 h1 h2 h3 n on a e = record {

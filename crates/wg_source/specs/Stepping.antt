@@ -18,7 +18,7 @@ pub record Steps (told : Bool) (name : List ℕ) (files1 files2 : Files) (counts
   pub in_step : IsTrue told → (file : List ℕ) → map.get files1 name ≡ Some file → IsHeldOf file h1 → IsHeldOf file h2
   pub small : IsSmall h1 → IsSmall h2
 
--- The same, if the next bit may be any.
+-- Like `Steps`, but the next bit may be any.
 pub record Moves (told : Bool) (name : List ℕ) (files1 files2 : Files) (counts1 counts2 : List ℕ → Counts)
     (h1 h2 : HeldBytes) : Type 0 where
   pub same : files2 ≡ files1

@@ -177,7 +177,7 @@ impl Stretch {
         self.look_now(depot, name)
     }
 
-    // The same, if nobody has looked yet.
+    // Asks for the byte at the limit, if nobody has looked yet.
     #[cold]
     #[inline(never)]
     fn look_now<D: Depot>(&mut self, depot: &mut D, name: &str) -> Result<(), LoadError>

@@ -21,7 +21,7 @@ refusal_weaker (Fault f) P Q on h = tt
 refusal_weaker Memory P Q on h = tt
 refusal_weaker (Refused r) P Q on h = on r h
 
--- the same of what a call answers, which may be no error
+-- what follows from the fault or the refusal that a call answers, if it answers one
 pub on_fault : {A R : Type 0} (x : Result A (PagesError R)) (P Q : ArchiveFault → Type 0) → ((f : ArchiveFault) → P f → Q f) → OnFault x P → OnFault x Q
 on_fault (Ok a) P Q on h = tt
 on_fault (Err e) P Q on h = fault_weaker e P Q on h

@@ -107,7 +107,7 @@ module _ (told : Bool) (files files1 files2 : Files) (counts counts1 counts2 : L
         subst (λ (q : PagesRead). IsJudged file q.params (Ok (record { graph = lists_of whole; places = places_of whole }))) same (record { short = k.short; reads = reads t file k.there k.held whole k.next }),
       )
 
--- the same of an equal depot
+-- how a reading goes on, of an equal depot
 pub goes_as : {D : Type 0} (told : Bool) (files : D → Files) (counts : D → List ℕ → Counts) (x y z : D) (a b : Reading) (e : Result (Unit {0}) (PagesError LoadError)) → y ≡ z
     → Goes told (files x) (files y) (counts x) (counts y) a b e → Goes told (files x) (files z) (counts x) (counts z) a b e
 goes_as told files counts x y z a b e same h = subst (λ w. Goes told (files x) (files w) (counts x) (counts w) a b e) same h

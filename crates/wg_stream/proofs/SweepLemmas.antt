@@ -30,7 +30,7 @@ use Rattle.wg_stream.proofs.AcceptedRecords.{list_at}
 graph_is_one : (p : Parameters) (bits : List Bool) (g : List (List ℕ)) → StandFor p bits g → (h : HaveGraph p bits) → h.0 ≡ g
 graph_is_one p bits g b h = ∥∥₁_elim h.1 (one_set h.0 g) (λ a. stand_one p bits h.0 g a b)
 
--- the same by other names
+-- the graph of equal parameters and bytes is the one that these stand for
 pub graph_there : (p q : Parameters) (xs ys : List ℕ) (g : List (List ℕ)) → q ≡ p → ys ≡ xs → StandFor p (bits_of xs) g → (h : HaveGraph q (bits_of ys)) → h.0 ≡ g
 graph_there p q xs ys g same is b =
     subst (λ (r : Parameters). (h : HaveGraph r (bits_of ys)) → h.0 ≡ g) (sym same) (subst (λ (l : List ℕ). (h : HaveGraph p (bits_of l)) → h.0 ≡ g) (sym is) (graph_is_one p (bits_of xs) g b))

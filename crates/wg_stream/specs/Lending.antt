@@ -17,8 +17,8 @@ use Rattle.wg_stream.specs.contracts.reader.Reader.{the_row}
 abbrev pub RestsSo : MutBor Reading → (Reading → Type 0) → Fml
 RestsSo s P = Rests the_row s P
 
--- the same file by the same parameters, and an offset that does not fall; no more lists are kept than the window has,
--- none that is held is longer than there are pages, and no more bytes of the file are held than one piece
+-- The reading stays at its file and parameters, and its offset does not fall; no more lists are kept than the window
+-- has, none that is held is longer than there are pages, and no more bytes of the file are held than one piece.
 pub record KeepsOn (old after : Reading) : Type 0 where
   pub params : after.pages.params ≡ old.pages.params
   pub name : after.name ≡ old.name

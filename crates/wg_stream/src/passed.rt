@@ -38,7 +38,8 @@ pub fn pass(alloc: Global, bytes: &[u8], params: Params) -> Result<Passed, Pages
     Ok(Passed { offsets, greatest })
 }
 
-// The same from the first page on, if no offset is kept yet; it gives the greatest outdegree.
+// Validates the records from the first page on, and what follows them, if no offset is kept yet; it gives the greatest
+// outdegree.
 fn pass_on(
     nodes: u64,
     source: &mut Cursor<'_>,

@@ -42,7 +42,8 @@ fn read_lists<S: Source>(
     pages.finish(source)
 }
 
-// The same, from the first page on.
+// Reads the records of all pages, from the first one on, into a graph that has no list yet, and checks what follows
+// them.
 fn read_into<S: Source>(
     alloc: Global,
     params: Params,

@@ -197,7 +197,8 @@ impl<'a> Sweep<'a> {
         }
     }
 
-    /// The same if a pass has been made: `room` is the greatest outdegree, and all memory is that of the rows.
+    /// Like [`Sweep::new`], if a pass has been made: `room` is the greatest outdegree, and all memory is that of the
+    /// rows.
     pub fn with_room(
         alloc: Global,
         bytes: &'a [u8],

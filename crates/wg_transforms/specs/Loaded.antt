@@ -97,7 +97,7 @@ abbrev pub LoadsArchiveBy : {D : Type 0} → depot.Ghosts D → List ℕ → D �
 LoadsArchiveBy d base before after result =
     LoadsArchive base d.told (d.files before) (d.files after) (d.counts before) (d.counts after) result
 
--- the same of an archive that is the second of its job: its end is reported as the second's
+-- what comes of reading the second archive of a job: its end is reported as the second's
 abbrev pub result_of_second : Result Loaded Ending → Result Loaded Ending
 result_of_second (Ok l) = Ok l
 result_of_second (Err e) = Err (second_ending e)

@@ -43,7 +43,8 @@ pub(crate) fn count_records(
     Ok(Counted { counts, greatest })
 }
 
-// The same from the first page on, if no arc is counted yet; it gives the greatest outdegree.
+// Validates the records from the first page on, and what follows them, and counts the arcs at their targets, if none is
+// counted yet; it gives the greatest outdegree.
 fn count_on(
     nodes: u64,
     source: &mut Cursor<'_>,

@@ -49,7 +49,7 @@ pub fn load_archive<D: Depot>(alloc: Global, depot: &mut D, base: &Name) -> Resu
     })
 }
 
-/// The same of the second archive of a job: if it ends the job, the second is named.
+/// Like [`load_archive`], for the second archive of a job: if it ends the job, the second is named.
 pub fn load_second<D: Depot>(alloc: Global, depot: &mut D, base: &Name) -> Result<Loaded, Ending>
     ensures { LoadsSecondBy ⟦<D as Depot>⟧ base.now depot.old depot.new result }
 {

@@ -55,7 +55,7 @@ fn counted_ranges<'a>(
     Ok(Transposer::with_counts(alloc, lists, found.counts))
 }
 
-// The same, if they are validated first.
+// The lists of the transposed graph of a graph file whose records are validated before its arcs are counted.
 fn judged_ranges<'a>(
     alloc: Global,
     params: &Params,

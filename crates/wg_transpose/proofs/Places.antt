@@ -8,7 +8,7 @@ use Rattle.wg_transpose.proofs.Totals.{start_le}
 pub longer : {X : Type 0} (b c : ℕ → List X) (v : ℕ) (x : X) → OneMore b c v x → length (c v) ≡ length (b v) + 1
 longer b c v x m = omega (arith, ap length m.here, length-append (b v) (x ∷ []))
 
--- the same lists stand in the same places
+-- lists that are equal page by page stand in the same places
 pub same_prefixes : {X : Type 0} {none : X} (n : ℕ) (whole b c : ℕ → List X) (ends : List ℕ) (all : List X) → ((w : ℕ) → w < n → b w ≡ c w) → AreFilled none n whole b ends all → AreFilled none n whole c ends all
 same_prefixes {X} {none} n whole b c ends all same h = record {
   pages = h.pages;

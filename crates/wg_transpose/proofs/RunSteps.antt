@@ -209,7 +209,7 @@ module _ (g : Digraph) (k j : ℕ) (list : List ℕ) (is : IsListOf g k list) wh
 pub runs_yet : (g : Digraph) (k v : ℕ) → runs_in (with_page g k [] v) ≡ runs_below g k v
 runs_yet g k v = ap runs_in (none_seen g k v)
 
--- the same lists
+-- lists that are equal page by page have the same counts and ends
 pub same_counted : (n : ℕ) (b c : ℕ → List PageRun) (counts reach : List ℕ) → ((v : ℕ) → b v ≡ c v) → AreCounted n b counts reach → AreCounted n c counts reach
 same_counted n b c counts reach same h = subst (λ (f : ℕ → List PageRun). AreCounted n f counts reach) (λ i v. same v i) h
 

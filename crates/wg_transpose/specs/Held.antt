@@ -38,7 +38,7 @@ no_mark pages = MOST_PAGES_IN_RUNS
 abbrev pub no_run : PageRun
 no_run = record { from = 0; to = 0 }
 
--- The same of what stands for lists of pages, and where the last of each list ends, as `mark` tells it.
+-- Prefixes of what stands for lists of pages, and where the last of each list ends, as `mark` tells it.
 pub record AreBegun {X : Type 0} (items : List ℕ → List X) (mark : List ℕ → ℕ) (none : X) (n : ℕ) (whole lists : ℕ → List ℕ)
     (ends reach : List ℕ) (all : List X) : Type 0 where
   pub filled : AreFilled none n (λ v. items (whole v)) (λ v. items (lists v)) ends all

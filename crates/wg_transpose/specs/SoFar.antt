@@ -43,7 +43,7 @@ pub record AreFilled {X : Type 0} (none : X) (n : ℕ) (whole lists : ℕ → Li
   pub members : (v : ℕ) → v < n → (i : ℕ) → i < length (lists v)
       → get_or all (start whole v + i) none ≡ get_or (lists v) i none
 
--- the same of lists of numbers
+-- these are prefixes of the first n of the whole lists, which are lists of numbers
 abbrev pub ArePrefixes : ℕ → (ℕ → List ℕ) → (ℕ → List ℕ) → List ℕ → List ℕ → Type 0
 ArePrefixes n whole lists ends all = AreFilled 0 n whole lists ends all
 
@@ -51,6 +51,6 @@ ArePrefixes n whole lists ends all = AreFilled 0 n whole lists ends all
 abbrev pub ArePlaced : Digraph → (ℕ → List ℕ) → List ℕ → List ℕ → Type 0
 ArePlaced g lists ends all = ArePrefixes g.nodes (predecessors g) lists ends all
 
--- the same of the lists of n pages from this one on
+-- these are prefixes of the lists of predecessors of n pages, from page `first` on
 abbrev pub ArePlacedFrom : Digraph → ℕ → ℕ → (ℕ → List ℕ) → List ℕ → List ℕ → Type 0
 ArePlacedFrom g first n lists ends all = ArePrefixes n (onward first (predecessors g)) (onward first lists) ends all

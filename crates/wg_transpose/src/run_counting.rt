@@ -81,7 +81,7 @@ fn total(counts: &[u64]) -> u64
     all
 }
 
-// The same, and how many runs there are: runs, and arcs.
+// Counts all runs and arcs, as [`count_lists`] does, and answers how many there are: runs, and arcs.
 pub(crate) fn count<L: Lists>(
     lists: &mut L,
     counts: &mut [u64],

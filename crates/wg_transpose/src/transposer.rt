@@ -48,8 +48,8 @@ impl<L: Lists + Drop> Transposer<L> {
         Ok(Transposer::with_counts(alloc, lists, counts))
     }
 
-    /// The same if the arcs that lead to each page have been counted, as by [`count_arcs`](crate::count_arcs). It
-    /// goes over no list, and takes no memory.
+    /// Before the first range, if the arcs that lead to each page have been counted, as by
+    /// [`count_arcs`](crate::count_arcs). It goes over no list, and takes no memory.
     pub fn with_counts(alloc: Global, lists: L, counts: Vec<u64>) -> Transposer<L>
         requires few_pages { (L.graph lists).nodes ≤ MOST_PAGES }
         requires few_arcs { arc_count (L.graph lists) ≤ MOST_ARCS }

@@ -53,6 +53,6 @@ graph_not_offsets = ends_differ 0 GRAPH.now OFFSETS.now (omega arith) (omega ari
 pub no_file_shared : (input output : List ℕ) → input ≢ output → ShareNoFile input output
 no_file_shared input output other = grind (arith, append_cancel_right, properties_not_graph, properties_not_offsets, graph_not_offsets)
 
--- the same by the test
+-- archives whose names differ by the test share no file
 pub no_file_shared_unless : (input output : List ℕ) → bytes_eq input output ≡ false → ShareNoFile input output
 no_file_shared_unless input output is = no_file_shared input output (not_whole input output is)

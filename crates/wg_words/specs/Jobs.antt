@@ -32,12 +32,12 @@ rank_from rows base weights certificate =
     (number_in rows (codes "damping") DEFAULT_DAMPING MOST_DAMPING))
     (number_in rows (codes "rounds") DEFAULT_ROUNDS MOST_ROUNDS)
 
--- the same, unless the certificate would be written over a file that is read
+-- the ranking of an archive, unless the certificate would be written over a file that is read
 abbrev pub rank_with : List Row → Text → Option Text → Option Text → Option Job
 rank_with rows base weights certificate = if overwrites base weights certificate then None
     else rank_from rows base weights certificate
 
--- the same, with the weights and the certificate that the options name, if they do
+-- the ranking of an archive, with the weights and the certificate that the options name, if they do
 abbrev pub rank_on : List Row → Text → Option Job
 rank_on rows base =
     option_and_then (λ weights. option_and_then (rank_with rows base weights)
@@ -114,7 +114,7 @@ quotient_by rows c map =
     option_and_then (λ classes. Some (Quotient c.input map c.output classes c.layout))
     (required_in rows (codes "classes") MOST_PAGES)
 
--- the same by a map that is none of the files that are written
+-- the quotient of an archive by a map that is none of the files that are written
 abbrev pub quotient_on : List Row → Conversion → Option Job
 quotient_on rows c =
     option_and_then (λ map. if is_file_of c.output map then None else quotient_by rows c map)
@@ -147,7 +147,7 @@ job_on command rows base =
     else if bytes_eq command (codes "import") then import_on rows base
     else None
 
--- the same, with the archive that the words name
+-- the job of a command on the archive that the words name
 abbrev pub job_on_base : Text → List Row → Option Job
 job_on_base command rows = option_and_then (job_on command rows) (name_in rows (codes "base"))
 

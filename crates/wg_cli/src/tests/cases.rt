@@ -218,7 +218,8 @@ impl Cases {
         Ok(is_call && self.has_run)
     }
 
-    // The same for each of these numbers: whether a step is so after each run.
+    // Whether a step is so after each run in which a call of this kind fails, for the numbers of the call from one to
+    // another.
     fn each(&mut self, rest: &str) -> Result<bool, AllocError> {
         let (call, rest) = word_and_rest(rest);
         let Some((first, rest)) = number_and_rest(rest) else {

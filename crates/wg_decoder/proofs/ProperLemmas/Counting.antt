@@ -192,7 +192,7 @@ union_is xs ys zs n up_xs up_ys up_zs all =
     all_is (union_of xs (union_of ys zs)) xs ys zs n (union_ascends 0 xs (union_of ys zs) up_xs (union_ascends 0 ys zs up_ys up_zs))
     (λ y. in_union y xs (union_of ys zs) ∙ ap (λ (b : Bool). is_in y xs || b) (in_union y ys zs) ∙ sym (group_first (is_in y xs) (is_in y ys) (is_in y zs))) all
 
--- also if the first two come first
+-- if the first two are joined first, the union is the ascending list of the numbers of all three, too
 joined_is : (xs ys zs : List ℕ) (n : ℕ) → Ascends 0 xs → Ascends 0 ys → Ascends 0 zs → many (any_of xs ys zs) 0 n ≡ length xs + length ys + length zs → union_of (union_of xs ys) zs ≡ numbers_where (any_of xs ys zs) 0 n
 joined_is xs ys zs n up_xs up_ys up_zs all =
     all_is (union_of (union_of xs ys) zs) xs ys zs n (union_ascends 0 (union_of xs ys) zs (union_ascends 0 xs ys up_xs up_ys) up_zs)

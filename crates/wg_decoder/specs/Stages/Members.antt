@@ -31,7 +31,7 @@ AreMembers p page d r named bits at list end =
     → LeadsTo p (context_at page arcs_before behind) bits nothing_yet start (of_head p d r) at
     → AllRead p (context_at page arcs_before behind) bits start d r list end
 
--- the same of a record that is refused as the fault says
+-- if this head ends at the bit at, and the reference names this list, the record is refused as the fault says
 abbrev pub AreNoMembers : Parameters → ℕ → ℕ → ℕ → List ℕ → List Bool → ℕ → Fault → Type 0
 AreNoMembers p page d r named bits at e =
     (arcs_before start : ℕ) (behind : List Known) → referenced behind r ≡ named

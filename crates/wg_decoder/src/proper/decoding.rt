@@ -35,8 +35,8 @@ fn is_lent(below: Option<&[u64]>) -> bool
     }
 }
 
-/// The same as [`decode_into`](crate::proper::decode_into), if the record's head has been read: whoever asks for the
-/// reference first has it at hand.
+/// Like [`decode_into`](crate::proper::decode_into), if the record's head has been read: whoever asks for the reference
+/// first has it at hand.
 pub fn decode_behind<'a>(
     params: &Params,
     page: u64,

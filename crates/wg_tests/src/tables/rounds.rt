@@ -73,7 +73,7 @@ fn after_five_rounds<G: Gather>(alloc: Global, source: &mut G) -> Result<Bounds,
     Ok(bounds)
 }
 
-// The same of an archive, whose lists are decoded from its bits in each round.
+// The bounds of an archive after five rounds. Its lists are decoded from its bits in each round.
 fn swept(rt: &impl Abort, alloc: Global, bytes: &[u8], params: Params) -> Result<Bounds, Fail> {
     assert!(rt; bytes.len() as u64 <= MOST_BYTES);
     Records::check(alloc, bytes, params)?;
@@ -82,7 +82,7 @@ fn swept(rt: &impl Abort, alloc: Global, bytes: &[u8], params: Params) -> Result
     Ok(after_five_rounds(alloc, &mut sweep)?)
 }
 
-// The same of the archive of a graph.
+// The bounds of the archive of a graph after five rounds.
 fn archived(rt: &impl Abort, alloc: Global, graph: &Graph) -> Result<Bounds, Fail> {
     let params = usual(graph.nodes(), graph.arcs(), 7, 3, 4)?;
     let archive = encode(alloc, params, graph)?;
