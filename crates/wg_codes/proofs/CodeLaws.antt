@@ -1,5 +1,5 @@
 -- What callers of the codes need of all words at once, as lemmas.
-use Rattle.std.proofs.Common.{◌≡◌, ℕ, zero, suc, ◌+◌, ◌/◌, ◌<◌, ◌≤◌, Bool, List, ◌++◌, length, drop, refl, sym, ap, ◌∙◌, arith, length-append, add-one}
+use Rattle.std.proofs.Common.{◌≡◌, ℕ, suc, ◌+◌, ◌/◌, ◌<◌, ◌≤◌, Bool, List, ◌++◌, length, drop, refl, sym, ap, ◌∙◌, arith, length-append, add-one}
 use Rattle.std.proofs.lemmas.List.{drop_at}
 use Rattle.wg_params.specs.declared.code.Code.{Code}
 use Rattle.wg_params.specs.declared.code.Code.TheVariants.{Unary, Gamma, Delta, Zeta, Nibble}
@@ -37,8 +37,7 @@ gamma_some v z =
 
 digits_some : (n v : ℕ) → 0 < length (digits (suc n) v)
 unfolding digits
-digits_some zero v = omega arith
-digits_some (suc n) v = omega arith
+digits_some n v = grind arith
 
 pub word_some : (c : Code) (v : ℕ) → 0 < length (word c v)
 unfolding gamma delta zeta nibble

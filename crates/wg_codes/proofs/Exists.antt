@@ -18,7 +18,6 @@ use Rattle.wg_codes.proofs.UnaryWords.{unary_none, unary_cut, unary_value, free_
 use Rattle.wg_codes.proofs.Highest.{free_low, low_head_cut, low_head_none, low_cut, low_value, number_read, highest_bounds}
 use Rattle.wg_codes.specs.Parts.{IsShortenedAt, IsCutAt}
 use Rattle.std.proofs.lemmas.Nat.{le-div}
-use Rattle.std.proofs.Math.Nat.{pow-suc}
 use Rattle.wg_codes.proofs.ZetaWords.{room, free_zeta, zeta_top, zeta_head_cut, zeta_head_none, zeta_cut, zeta_value, tail_short, tail_long, tail_cut_early, tail_cut_late}
 use Rattle.wg_codes.proofs.NibbleLaw.{free_nibble}
 use Rattle.wg_codes.proofs.NibbleWords.{open_digits, IsOpen, open_none, nibble_cut, last_digit_open, digit_cut, nibble_value, zero_digit, open_next, open_step, nothing_open}
@@ -26,7 +25,6 @@ use Rattle.wg_codes.proofs.NibbleWords.{open_digits, IsOpen, open_none, nibble_c
 -- the number that k bits spell
 front_number : (z : List Bool) (k : ℕ) → k ≤ length z → (t : ℕ) × (t < 2 ^ k) × (z ≡ low_bits k t ++ drop k z)
 front_number z k l =
-    let f : List Bool = take k z in
     let n : length (take k z) ≡ k = length-take-le k z l in
     let e : low_bits k (number_of (take k z)) ≡ take k z = ap (λ m. low_bits m (number_of (take k z))) (sym n) ∙ low_bits-number_of (take k z) in (
       number_of (take k z),
@@ -62,7 +60,6 @@ low_from heads k few z (Value m) f =
     (λ (short : length z1 < m). let s : (s : Read) × Reads (with_low_bits heads) (2 ^ (k + 1) - 2) z s = (Cut, low_cut heads k few z z1 m f.0 f.1.1 short) in s)
     (λ (long : m ≤ length z1).
     let t = front_number z1 m long in
-    let lm : m ≤ k = f.0 in
     let n = number_read m t.0 z1 (drop m z1) (omega arith) t.1 t.2 in
     let s : (s : Read) × Reads (with_low_bits heads) (2 ^ (k + 1) - 2) z s = (Value (2 ^ m - 1 + t.0), low_value heads k few z z1 (drop m z1) m (2 ^ m - 1 + t.0) f.0 f.1.1 n) in s)
     (cases_lt (length z1) m)
@@ -182,16 +179,11 @@ no_word_begins_another c h v w lv lw b = free_word c h v w b.0 [] lv lw (sym b.1
 
 one_tail : (y : ℕ) → 2 ^ highest y ≤ y → y < 2 ^ suc (highest y) → shortened 1 (highest y) y ≡ low_bits (highest y) y
 one_tail y low high =
-    let m : ℕ = highest y in
-    let p : 2 ^ suc (highest y) ≡ 2 ^ highest y * 2 = pow-suc 2 (highest y) in
     let times : highest y * 1 ≡ highest y = omega arith in
-    let width : highest y * 1 + 1 - 1 ≡ highest y = omega arith in
-    let small : y - 2 ^ (highest y * 1) < 2 ^ (highest y * 1) = subst (λ k. y - 2 ^ k < 2 ^ k) (sym times) (omega arith) in
-    let cut : y ≡ 1 * 2 ^ highest y + (y - 2 ^ highest y) = omega arith in
-    cond-true _ _ _ (lt-ltb _ _ small)
-    ∙ ap (λ k. low_bits k (y - 2 ^ (highest y * 1))) width
+    cond-true _ _ _ (lt-ltb _ _ (subst (λ k. y - 2 ^ k < 2 ^ k) (sym times) (omega arith)))
+    ∙ ap (λ k. low_bits k (y - 2 ^ (highest y * 1))) (omega arith)
     ∙ ap (λ k. low_bits (highest y) (y - 2 ^ k)) times
-    ∙ sym (ap (low_bits (highest y)) cut ∙ low_bits-above (highest y) 1 (y - 2 ^ highest y))
+    ∙ sym (ap (low_bits (highest y)) (omega arith) ∙ low_bits-above (highest y) 1 (y - 2 ^ highest y))
 
 pub zeta_one_is_gamma : ZetaOneIsGamma
 unfolding zeta gamma

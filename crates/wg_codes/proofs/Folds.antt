@@ -1,27 +1,14 @@
-use Rattle.std.proofs.Common.{◌≡◌, ℕ, ◌+◌, ◌-◌, ◌*◌, ◌/◌, ◌%◌, ℤ, pos, negsuc, true, false, Some, None, ◌<◌, ◌≤◌, ◌-ℤ◌, sym, ap, ◌∙◌, ⊎_elim, arith}
-use Rattle.std.proofs.Math.Dec.{eqb}
+use Rattle.std.proofs.Common.{◌≡◌, ℕ, ◌+◌, ◌-◌, ◌/◌, ◌%◌, ℤ, pos, negsuc, Some, None, ◌<◌, ◌≤◌, ◌-ℤ◌, sym, ap, ◌∙◌, ⊎_elim, arith}
 use Rattle.std.proofs.lemmas.Int.{ints}
 use Rattle.std.proofs.lemmas.Bool.{cond-true, cond-false, eq-eqb, ne_eqb, cases_eq, cases_lt, le-leb, lt-leb}
 use Rattle.wg_codes.specs.Fold.{folded, unfolded, unfolded_from}
 use Rattle.wg_codes.specs.Laws.{FoldsBack, UnfoldsFrom}
 
 folds : (e : ℤ) → unfolded (folded e) ≡ e
-folds (pos n) =
-    let t : eqb (2 * n % 2) 0 ≡ true = eq-eqb (2 * n % 2) 0 (omega arith) in
-    let h : 2 * n / 2 ≡ n = omega arith in
-    cond-true _ _ _ t ∙ ap pos h
-folds (negsuc n) =
-    let t : eqb ((2 * (n + 1) - 1) % 2) 0 ≡ false = ne_eqb ((2 * (n + 1) - 1) % 2) 0 (λ e. omega arith) in
-    let h : (2 * (n + 1) - 1 + 1) / 2 - 1 ≡ n = omega arith in
-    cond-false _ _ _ t ∙ ap negsuc h
+folds e = grind arith
 
 unfolds : (v : ℕ) → folded (unfolded v) ≡ v
-unfolds v = ⊎_elim
-    (λ (e : v % 2 ≡ 0).
-    let h : 2 * (v / 2) ≡ v = omega arith in ap folded (cond-true _ _ _ (eq-eqb (v % 2) 0 e)) ∙ h)
-    (λ n.
-    let h : 2 * ((v + 1) / 2 - 1 + 1) - 1 ≡ v = omega arith in ap folded (cond-false _ _ _ (ne_eqb (v % 2) 0 n)) ∙ h)
-    (cases_eq (v % 2) 0)
+unfolds v = grind arith
 
 pub folds_back : FoldsBack
 folds_back = (folds, unfolds)
@@ -51,28 +38,17 @@ distance_folds : (x v y : ℕ) → unfolded_from x v ≡ Some y → folded (pos 
 distance_folds x v y e = ⊎_elim
     (λ (even : v % 2 ≡ 0).
     let at : x + v / 2 ≡ y = some_same _ _ (sym (from_even x v even) ∙ e) in
-    let sum : 2 * (y - x) ≡ v = omega arith in
-    ap folded (up_from x y (omega arith)) ∙ sum)
+    ap folded (up_from x y (omega arith)) ∙ omega arith)
     (λ odd. ⊎_elim
     (λ (low : x < v / 2 + 1). absurd (some_none y (sym (from_none x v odd low) ∙ e)))
     (λ (high : v / 2 + 1 ≤ x).
     let at : x - (v / 2 + 1) ≡ y = some_same _ _ (sym (from_odd x v odd high) ∙ e) in
-    let sum : 2 * (x - y - 1 + 1) - 1 ≡ v = omega arith in
-    ap folded (down_from x y (omega arith)) ∙ sum)
+    ap folded (down_from x y (omega arith)) ∙ omega arith)
     (cases_lt x (v / 2 + 1)))
     (cases_eq (v % 2) 0)
 
 folds_distance : (x v y : ℕ) → folded (pos y -ℤ pos x) ≡ v → unfolded_from x v ≡ Some y
-folds_distance x v y e = ⊎_elim
-    (λ (below : y < x).
-    let sum : 2 * (x - y - 1 + 1) - 1 ≡ v = sym (ap folded (down_from x y below)) ∙ e in
-    let at : x - (v / 2 + 1) ≡ y = omega arith in
-    from_odd x v (λ even. omega arith) (omega arith) ∙ ap Some at)
-    (λ (above : x ≤ y).
-    let sum : 2 * (y - x) ≡ v = sym (ap folded (up_from x y above)) ∙ e in
-    let at : x + v / 2 ≡ y = omega arith in
-    from_even x v (omega arith) ∙ ap Some at)
-    (cases_lt y x)
+folds_distance x v y e = grind arith
 
 pub unfolds_from : UnfoldsFrom
 unfolds_from x v y = (distance_folds x v y, folds_distance x v y)

@@ -1,4 +1,4 @@
-use Rattle.std.proofs.Common.{◌≡◌, ℕ, zero, suc, ◌+◌, ◌-◌, ◌*◌, ◌/◌, ◌^◌, ◌<◌, ◌≤◌, max, Bool, true, false, ltb, inl, inr, List, ◌++◌, length, take, refl, sym, ap, ◌∙◌, subst, ⊎_elim, arith, length-append, suc-le-suc}
+use Rattle.std.proofs.Common.{◌≡◌, ℕ, zero, suc, ◌+◌, ◌-◌, ◌*◌, ◌/◌, ◌^◌, ◌<◌, ◌≤◌, max, Bool, true, false, ltb, inl, inr, List, ◌++◌, length, take, refl, sym, ap, ◌∙◌, subst, arith, length-append, suc-le-suc}
 use Rattle.std.specs.Int.Count.{count_leading_zeros}
 use Rattle.std.proofs.Math.Nat.{pow-suc}
 use Rattle.std.proofs.Math.Numerals.{add-one}
@@ -62,23 +62,16 @@ one_left = refl
 
 -- 0 has the index of 1
 pub highest_of_max : (y m : ℕ) → y < 2 ^ 64 → m ≡ max y 1 → 63 - count_leading_zeros 64 m ≡ highest y
-highest_of_max y m few e = ⊎_elim
-    (λ (none : y < 1). let z : y ≡ 0 = omega arith in let o : m ≡ 1 = omega arith in rw (z, o, highest_zero) one_left)
-    (λ (some : 1 ≤ y). let o : m ≡ y = omega arith in rw o (zeros_left y some few).0)
-    (cases_lt y 1)
+highest_of_max y m few e = grind (arith, cases_lt, highest_zero, zeros_left, one_left)
 
 pub between_powers : (y i j : ℕ) → 2 ^ i ≤ y → y < 2 ^ suc j → i ≤ j
-between_powers y i j l h = ⊎_elim
-    (λ (m : j < i). let p : 2 ^ suc j ≤ 2 ^ i = pow_mono m in absurd (omega arith))
-    (λ (m : i ≤ j). m)
-    (cases_lt j i)
+between_powers y i j l h = grind (arith, pow_mono, cases_lt)
 
 -- a number below a power has its highest one below
 pub highest_below : (y k : ℕ) → 0 < y → y < 2 ^ suc k → k ≤ 63 → highest y ≤ k
 highest_below y k pos l few =
     let big : 2 ^ suc k ≤ 2 ^ 64 = pow_mono (suc-le-suc few) in
-    let b = highest_bounds y pos (omega arith) in
-    between_powers y (highest y) k b.0 l
+    between_powers y (highest y) k (highest_bounds y pos (omega arith)).0 l
 
 -- ---- equal fronts
 pub same_fronts : (a b x y : List Bool) → length a ≡ length b → a ++ x ≡ b ++ y → a ≡ b
@@ -88,7 +81,6 @@ same_fronts a b x y l e = sym (take_at a x (length a) refl) ∙ ap (take (length
 pub filled : (z : List Bool) (k : ℕ) → length z < k → (t : ℕ) × (t < 2 ^ k) × ProperlyBegins z (low_bits k t)
 filled z k l =
     let n : ℕ = length z in
-    let r : ℕ = k - n in
     let sum : n + (k - n) ≡ k = omega arith in
     let t : ℕ = number_of z * 2 ^ (k - n) + 0 in
     let small : number_of z * 2 ^ (k - n) < 2 ^ k = subst (λ m. number_of z * 2 ^ (k - n) < 2 ^ m) sum (shl_below (number_of z) n (k - n) (number_of-lt z)) in
@@ -123,7 +115,6 @@ place_of v = highest (v + 1)
 -- the number whose highest one stands at m, with t below it
 pub number_at : (m t : ℕ) → m ≤ 62 → t < 2 ^ m → (highest (2 ^ m - 1 + t + 1) ≡ m) × (low_bits m (2 ^ m - 1 + t + 1) ≡ low_bits m t) × (2 ^ m - 1 + t < 2 ^ (m + 1) - 1)
 number_at m t few l =
-    let pos : 0 < 2 ^ m = pow_pos m in
     let p : 2 ^ suc m ≡ 2 ^ m * 2 = pow-suc 2 m in
     let q : 2 ^ (m + 1) ≡ 2 ^ m * 2 = ap (λ k. 2 ^ k) (add-one m) ∙ p in
     let e : 2 ^ m - 1 + t + 1 ≡ 1 * 2 ^ m + t = omega arith in
@@ -132,7 +123,6 @@ number_at m t few l =
 -- numbers with one index and the same low bits are equal
 same_numbers : (y z m : ℕ) → 2 ^ m ≤ y → y < 2 ^ suc m → 2 ^ m ≤ z → z < 2 ^ suc m → low_bits m y ≡ low_bits m z → y ≡ z
 same_numbers y z m ly hy lz hz e =
-    let p : 2 ^ suc m ≡ 2 ^ m * 2 = pow-suc 2 m in
     let cy : y ≡ 1 * 2 ^ m + (y - 2 ^ m) = omega arith in
     let cz : z ≡ 1 * 2 ^ m + (z - 2 ^ m) = omega arith in
     let ey : low_bits m y ≡ low_bits m (y - 2 ^ m) = ap (low_bits m) cy ∙ low_bits-above m 1 (y - 2 ^ m) in
@@ -142,10 +132,7 @@ same_numbers y z m ly hy lz hz e =
 
 pub headed_low : (heads : ℕ → List Bool) (most_head : ℕ) → most_head ≤ 62
     → Headed (with_low_bits heads) heads low_tail place_of (2 ^ (most_head + 1) - 2) most_head
-headed_low heads k few v l =
-    let pos : 0 < 2 ^ (k + 1) = pow_pos (k + 1) in
-    let two : 2 ^ (k + 1) ≡ 2 ^ suc k = ap (λ m. 2 ^ m) (add-one k) in
-    (refl, highest_below (v + 1) k (omega arith) (omega arith) (omega arith))
+headed_low heads k few v l = grind (arith, add-one, pow_pos, highest_below)
 
 pub free_low : (heads : ℕ → List Bool) (most_head : ℕ) → most_head ≤ 62 → Free heads most_head → Free (with_low_bits heads) (2 ^ (most_head + 1) - 2)
 free_low heads k few free =
@@ -154,7 +141,6 @@ free_low heads k few free =
     let big : 2 ^ (k + 1) ≤ 2 ^ 63 = pow_mono (let s : k + 1 ≤ 63 = omega arith in s) in
     let bv = highest_bounds (v + 1) (omega arith) (omega arith) in
     let bw = highest_bounds (w + 1) (omega arith) (omega arith) in
-    let m : ℕ = highest (v + 1) in
     let same_length : length (low_tail v) ≡ length (low_tail w) = length-low_bits (highest (v + 1)) (v + 1) ∙ h ∙ sym (length-low_bits (highest (w + 1)) (w + 1)) in
     let tails : low_tail v ≡ low_tail w = same_fronts (low_tail v) (low_tail w) x y same_length e in
     let tails_here : low_bits (highest (v + 1)) (v + 1) ≡ low_bits (highest (v + 1)) (w + 1) = tails ∙ ap (λ k. low_bits k (w + 1)) (sym h) in
@@ -185,11 +171,10 @@ low_cut heads k few z z1 m lm e short =
     let t : ℕ = f.0 in
     let n = number_at m t (omega arith) f.1 in
     let v : ℕ = 2 ^ m - 1 + t in
-    let tail : low_tail v ≡ low_bits m t = ap (λ p. low_bits p (v + 1)) n.0 ∙ n.1 in
     cut_tail (with_low_bits heads) heads low_tail place_of (2 ^ (k + 1) - 2) k (headed_low heads k few) z z1 v
     (below_all m k v lm n.2)
     (e ∙ ap (λ p. heads p ++ z1) (sym n.0))
-    (f.2.0, f.2.1, tail ∙ f.2.2)
+    (f.2.0, f.2.1, (ap (λ p. low_bits p (v + 1)) n.0 ∙ n.1) ∙ f.2.2)
 
 pub low_value : (heads : ℕ → List Bool) (k : ℕ) → k ≤ 62 → (z z1 z2 : List Bool) (m v : ℕ) → m ≤ k → z ≡ heads m ++ z1 → IsNumberAt m v z1 z2
     → Reads (with_low_bits heads) (2 ^ (k + 1) - 2) z (Value v)
@@ -204,8 +189,7 @@ pub low_place : (heads : ℕ → List Bool) (p q r : Position) (m v : ℕ) → q
 low_place heads p q r m v eq er h =
     let long : length (with_low_bits heads v) ≡ length (heads m) + m =
     ap (λ k. length (heads k ++ low_bits k (v + 1))) h ∙ length-append (heads m) (low_bits m (v + 1)) ∙ ap (λ n. length (heads m) + n) (length-low_bits m (v + 1)) in
-    let sum : p.at + length (heads m) + m ≡ p.at + length (with_low_bits heads v) = omega arith in
-    er ∙ ap (λ x. moved x m) eq ∙ ap (λ a. let x : Position = record { bits = p.bits; at = a } in x) sum
+    er ∙ ap (λ x. moved x m) eq ∙ ap (λ a. let x : Position = record { bits = p.bits; at = a } in x) (omega arith)
 
 pub number_read : (m t : ℕ) (z1 z2 : List Bool) → m ≤ 62 → t < 2 ^ m → z1 ≡ low_bits m t ++ z2 → IsNumberAt m (2 ^ m - 1 + t) z1 z2
 number_read m t z1 z2 few l e =

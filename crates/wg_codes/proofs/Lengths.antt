@@ -1,8 +1,7 @@
 use Rattle.std.proofs.Common.{◌≡◌, ℕ, suc, ◌+◌, ◌-◌, ◌*◌, ◌/◌, ◌%◌, ◌^◌, ◌<◌, ◌≤◌, Bool, true, List, ◌∷◌, ◌++◌, length, sym, ap, ◌∙◌, subst, arith, length-append}
-use Rattle.std.proofs.Math.Nat.{div-mul-le_self, mul_comm}
 use Rattle.std.proofs.Math.Pow.{pow_mono}
 use Rattle.std.proofs.lemmas.Bool.{cond-true, cond-false, lt-ltb, le-ltb}
-use Rattle.std.proofs.lemmas.Nat.{le-div, mul-le}
+use Rattle.std.proofs.lemmas.Nat.{le-div}
 use Rattle.wg_bits.specs.Bits.{low_bits}
 use Rattle.wg_bits.proofs.LowBits.{length-low_bits}
 use Rattle.wg_codes.specs.Words.{highest, unary, gamma, delta, zeta, nibble, shortened, with_low_bits}
@@ -59,10 +58,6 @@ length-zeta_long k v h e l =
 
 pub top_above : (k : ℕ) → 1 ≤ k → k ≤ 31 → (k * (63 / k) < 64) × (2 ≤ 2 ^ (k * (63 / k)))
 top_above k some few =
-    let q : 1 ≤ 63 / k = le-div 1 63 k (omega arith) (omega arith) in
-    let least : 1 * 1 ≤ k * (63 / k) = mul-le 1 1 k (63 / k) some q in
-    let turn : k * (63 / k) ≡ 63 / k * k = mul_comm k (63 / k) in
-    let fits : 63 / k * k ≤ 63 = div-mul-le_self 63 k in
     let b : 1 ≤ k * (63 / k) = omega arith in
     let p : 2 ^ 1 ≤ 2 ^ (k * (63 / k)) = pow_mono b in
     (omega arith, omega arith)

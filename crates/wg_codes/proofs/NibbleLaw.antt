@@ -1,6 +1,5 @@
 -- No word of nibble begins another.
 use Rattle.std.proofs.Common.{◌≡◌, ℕ, zero, suc, ◌+◌, ◌-◌, ◌*◌, ◌/◌, ◌%◌, ◌^◌, ◌<◌, Bool, true, false, List, ◌∷◌, ◌++◌, length, sym, ap, ◌∙◌, subst, ⊎_elim, arith, append_assoc}
-use Rattle.std.proofs.Math.Nat.{pow-suc}
 use Rattle.std.proofs.lemmas.Bool.{cases_order}
 use Rattle.std.proofs.lemmas.List.{append_cancel_left}
 use Rattle.wg_bits.specs.Bits.{low_bits}
@@ -28,15 +27,11 @@ open_shorter (suc m) (suc d) u v x y l e =
     open_shorter m d u v x y (omega arith) (append_cancel_left a (open_digits m u ++ (true ∷ x)) (open_digits d v ++ y) (g ∙ ap (λ z. z ++ (open_digits d v ++ y)) (sym s)))
 
 last_same : (f g p q : List Bool) (b : Bool) → length f ≡ length g → f ++ (b ∷ p) ≡ g ++ (b ∷ q) → (f ≡ g) × (p ≡ q)
-last_same f g p q b l e =
-    let s : f ≡ g = same_fronts f g (b ∷ p) (b ∷ q) l e in
-    let t : b ∷ p ≡ b ∷ q = append_cancel_left f (b ∷ p) (b ∷ q) (e ∙ ap (λ x. x ++ (b ∷ q)) (sym s)) in
-    (s, cons_tail b b p q t)
+last_same f g p q b l e = grind (arith, append_cancel_left, cons_tail, same_fronts)
 
 open_injective : (n a b : ℕ) → a < 8 ^ n → b < 8 ^ n → open_digits n a ≡ open_digits n b → a ≡ b
 open_injective zero a b la lb e = omega arith
 open_injective (suc n) a b la lb e =
-    let p : 8 ^ suc n ≡ 8 ^ n * 8 = pow-suc 8 n in
     let ea : a / 8 * 8 + a % 8 ≡ a = omega arith in
     let eb : b / 8 * 8 + b % 8 ≡ b = omega arith in
     let ra : a % 8 < 8 = omega arith in
@@ -52,7 +47,6 @@ open_injective (suc n) a b la lb e =
 same_count : (n a b : ℕ) (x y : List Bool) → a < 8 ^ suc n → b < 8 ^ suc n
     → open_digits n (a / 8) ++ (true ∷ (low_bits 3 (a % 8) ++ x)) ≡ open_digits n (b / 8) ++ (true ∷ (low_bits 3 (b % 8) ++ y)) → a ≡ b
 same_count n a b x y la lb e =
-    let p : 8 ^ suc n ≡ 8 ^ n * 8 = pow-suc 8 n in
     let t = last_same (open_digits n (a / 8)) (open_digits n (b / 8)) (low_bits 3 (a % 8) ++ x) (low_bits 3 (b % 8) ++ y) true
     (length-open_digits n (a / 8) ∙ sym (length-open_digits n (b / 8))) e in
     let s : low_bits 3 (a % 8) ≡ low_bits 3 (b % 8) =
@@ -65,8 +59,6 @@ pub free_nibble : Free nibble (2 ^ 63 - 1)
 free_nibble a b x y la lb e =
     let fa = full_of a la in
     let fb = full_of b lb in
-    let na : ℕ = highest a / 3 in
-    let nb : ℕ = highest b / 3 in
     let sa : nibble a ++ x ≡ open_digits (highest a / 3) (a / 8) ++ (true ∷ (low_bits 3 (a % 8) ++ x)) =
     ap (λ k. k ++ x) (split_word a la) ∙ append_assoc (open_digits (highest a / 3) (a / 8)) (true ∷ low_bits 3 (a % 8)) x in
     let sb : nibble b ++ y ≡ open_digits (highest b / 3) (b / 8) ++ (true ∷ (low_bits 3 (b % 8) ++ y)) =

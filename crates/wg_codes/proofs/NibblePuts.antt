@@ -12,14 +12,12 @@ use Rattle.wg_codes.proofs.NibbleWords.{open_digits, open_more, eights, split_wo
 
 digit_open : (t : ℕ) → t < 8 → low_bits 4 t ≡ false ∷ low_bits 3 t
 digit_open t l =
-    let none : t / 2 ^ 3 ≡ 0 = omega arith in
-    low_bits-add 1 3 t ∙ ap (λ k. low_bits 1 k ++ low_bits 3 t) none ∙ ap (λ z. z ++ low_bits 3 t) one_bit_zero
+    low_bits-add 1 3 t ∙ ap (λ k. low_bits 1 k ++ low_bits 3 t) (omega arith) ∙ ap (λ z. z ++ low_bits 3 t) one_bit_zero
 
 digit_last : (t : ℕ) → t < 8 → low_bits 4 (8 + t) ≡ true ∷ low_bits 3 t
 digit_last t l =
-    let one : (8 + t) / 2 ^ 3 ≡ 1 = omega arith in
     let turn : 8 + t ≡ 1 * 2 ^ 3 + t = omega arith in
-    low_bits-add 1 3 (8 + t) ∙ ap (λ k. low_bits 1 k ++ low_bits 3 (8 + t)) one
+    low_bits-add 1 3 (8 + t) ∙ ap (λ k. low_bits 1 k ++ low_bits 3 (8 + t)) (omega arith)
     ∙ ap (λ z. z ++ low_bits 3 (8 + t)) one_bit_one ∙ ap (λ z. true ∷ z) (ap (low_bits 3) turn ∙ low_bits-above 3 1 t)
 
 -- the digits of v above the last `more` and one
@@ -31,29 +29,18 @@ opened_more v more l =
     let count : highest v / 3 - more ≡ suc (highest v / 3 - suc more) = omega arith in
     let p : 8 ^ suc (suc more) ≡ 8 ^ suc more * 8 = pow-suc 8 (suc more) in
     let high : v / 8 ^ suc (suc more) ≡ v / 8 ^ suc more / 8 = ap (λ m. v / m) p ∙ sym (div-div-eq-div-mul v (8 ^ suc more) 8) in
-    let whole : v / 8 ^ suc more ≡ v / 8 ^ suc (suc more) * 8 + v / 8 ^ suc more % 8 = omega arith in
-    ap (λ m. open_digits m (v / 8 ^ suc more)) count ∙ ap (open_digits (suc (highest v / 3 - suc more))) whole
+    ap (λ m. open_digits m (v / 8 ^ suc more)) count ∙ ap (open_digits (suc (highest v / 3 - suc more))) (omega arith)
     ∙ open_more (highest v / 3 - suc more) (v / 8 ^ suc (suc more)) (v / 8 ^ suc more % 8) (omega arith)
 
 -- one digit is put
 pub opened_put : (v more m d : ℕ) → 0 < more → more ≤ highest v / 3 → m ≡ more - 1 → d ≡ v / 2 ^ (3 * more) % 8 → opened v more ++ low_bits 4 d ≡ opened v m
-opened_put v zero m d some few em ed = absurd (omega arith)
-opened_put v (suc n) m d some few em ed =
-    let same : m ≡ n = omega arith in
-    let digit : d ≡ v / 8 ^ suc n % 8 = ed ∙ ap (λ k. v / k % 8) (sym (eights (suc n))) in
-    ap (λ z. opened v (suc n) ++ z) (ap (low_bits 4) digit ∙ digit_open (v / 8 ^ suc n % 8) (omega arith))
-    ∙ sym (opened_more v n few) ∙ ap (opened v) (sym same)
+opened_put v more m d h h2 h3 h4 = grind (arith, eights, digit_open, opened, opened_more)
 
 last_put : (v : ℕ) → v ≤ 2 ^ 63 - 1 → opened v 0 ++ low_bits 4 (8 + v % 8) ≡ nibble v
-last_put v l =
-    let count : highest v / 3 - 0 ≡ highest v / 3 = omega arith in
-    ap (λ m. open_digits m (v / 8) ++ low_bits 4 (8 + v % 8)) count
-    ∙ ap (λ z. open_digits (highest v / 3) (v / 8) ++ z) (digit_last (v % 8) (omega arith)) ∙ sym (split_word v l)
+last_put v l = grind (arith, open_digits, split_word, digit_last)
 
 pub nibble_put : (v more d : ℕ) → v ≤ 2 ^ 63 - 1 → more ≤ 0 → d ≡ 8 + v % 8 → opened v more ++ low_bits 4 d ≡ nibble v
-nibble_put v more d l none e =
-    let z : more ≡ 0 = omega arith in
-    ap (λ m. opened v m ++ low_bits 4 d) z ∙ ap (λ m. opened v 0 ++ low_bits 4 m) e ∙ last_put v l
+nibble_put v more d l none e = grind (arith, opened, last_put)
 
 -- what has been put begins the word
 pub opened_begins : (v more : ℕ) → v ≤ 2 ^ 63 - 1 → more ≤ highest v / 3 → (r : List Bool) × (nibble v ≡ opened v more ++ r)
@@ -65,9 +52,7 @@ opened_begins v (suc n) l few =
 
 pub nothing_opened : (v more : ℕ) → more ≡ highest v / 3 → opened v more ≡ []
 unfolding open_digits
-nothing_opened v more e =
-    let none : highest v / 3 - more ≡ 0 = omega arith in
-    ap (λ m. open_digits m (v / 8 ^ suc more)) none
+nothing_opened v more e = grind arith
 
 -- a refused digit
 pub sends_some_digits : {D A : Type 0} (dep : depot.Ghosts D) (a b c : D) (n : List ℕ) (w m x z : List Bool) (v more d : ℕ) (e : WriteError) → v ≤ 2 ^ 63 - 1 → 0 < more → more ≤ highest v / 3

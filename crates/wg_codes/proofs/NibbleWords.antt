@@ -25,20 +25,14 @@ eights_pos (suc n) = let p : 8 ^ suc n ≡ 8 ^ n * 8 = pow-suc 8 n in let h = ei
 pub eights : (n : ℕ) → 8 ^ n ≡ 2 ^ (3 * n)
 eights zero = refl
 eights (suc n) =
-    let p : 8 ^ suc n ≡ 8 ^ n * 8 = pow-suc 8 n in
-    let s : 3 * suc n ≡ suc (suc (suc (3 * n))) = omega arith in
-    let q1 : 2 ^ suc (suc (suc (3 * n))) ≡ 2 ^ suc (suc (3 * n)) * 2 = pow-suc 2 (suc (suc (3 * n))) in
-    let q2 : 2 ^ suc (suc (3 * n)) ≡ 2 ^ suc (3 * n) * 2 = pow-suc 2 (suc (3 * n)) in
-    let q3 : 2 ^ suc (3 * n) ≡ 2 ^ (3 * n) * 2 = pow-suc 2 (3 * n) in
     let h = eights n in
     let all : 8 ^ suc n ≡ 2 ^ suc (suc (suc (3 * n))) = omega arith in
-    all ∙ ap (λ m. 2 ^ m) (sym s)
+    all ∙ ap (λ m. 2 ^ m) (sym (omega arith))
 
 up_digit : (n v t : ℕ) → t < 8 → (v * 8 + t) / 8 ^ suc n ≡ v / 8 ^ n
 up_digit n v t l =
     let p : 8 ^ suc n ≡ 8 * 8 ^ n = omega (arith, pow-suc 8 n) in
-    let e : (v * 8 + t) / 8 ≡ v = omega arith in
-    ap (λ m. (v * 8 + t) / m) p ∙ sym (div-div-eq-div-mul (v * 8 + t) 8 (8 ^ n)) ∙ ap (λ m. m / 8 ^ n) e
+    ap (λ m. (v * 8 + t) / m) p ∙ sym (div-div-eq-div-mul (v * 8 + t) 8 (8 ^ n)) ∙ ap (λ m. m / 8 ^ n) (omega arith)
 
 -- a digit more at the end
 pub open_more : (n v t : ℕ) → t < 8 → open_digits (suc n) (v * 8 + t) ≡ open_digits n v ++ (false ∷ low_bits 3 t)
@@ -47,20 +41,16 @@ open_more zero v t l =
     let e : (v * 8 + t) / 8 ^ 0 ≡ v * 2 ^ 3 + t = omega arith in
     ap (λ m. false ∷ (low_bits 3 m ++ [])) e ∙ ap (λ z. false ∷ z) (append-nil (low_bits 3 (v * 2 ^ 3 + t)) ∙ low_bits-above 3 v t)
 open_more (suc n) v t l =
-    let p : 8 ^ suc n ≡ 8 ^ n * 8 = pow-suc 8 n in
-    let e : (v * 8 + t) / 8 ^ suc n ≡ v / 8 ^ n = up_digit n v t l in
-    ap (λ m. false ∷ (low_bits 3 m ++ open_digits (suc n) (v * 8 + t))) e
+    ap (λ m. false ∷ (low_bits 3 m ++ open_digits (suc n) (v * 8 + t))) (up_digit n v t l)
     ∙ ap (λ z. false ∷ (low_bits 3 (v / 8 ^ n) ++ z)) (open_more n v t l)
     ∙ ap (λ z. false ∷ z) (sym (append_assoc (low_bits 3 (v / 8 ^ n)) (open_digits n v) (false ∷ low_bits 3 t)))
 
 -- all digits but the last, and the last
 pub digits_last : (n v t : ℕ) → t < 8 → digits (suc n) (v * 8 + t) ≡ open_digits n v ++ (true ∷ low_bits 3 t)
 unfolding digits open_digits
-digits_last zero v t l =
-    ap (λ z. true ∷ z) (low_bits-above 3 v t)
+digits_last zero v t l = grind (arith, low_bits-above)
 digits_last (suc n) v t l =
-    let e : (v * 8 + t) / 8 ^ suc n ≡ v / 8 ^ n = up_digit n v t l in
-    ap (λ m. false ∷ (low_bits 3 m ++ digits (suc n) (v * 8 + t))) e
+    ap (λ m. false ∷ (low_bits 3 m ++ digits (suc n) (v * 8 + t))) (up_digit n v t l)
     ∙ ap (λ z. false ∷ (low_bits 3 (v / 8 ^ n) ++ z)) (digits_last n v t l)
     ∙ ap (λ z. false ∷ z) (sym (append_assoc (low_bits 3 (v / 8 ^ n)) (open_digits n v) (true ∷ low_bits 3 t)))
 
@@ -118,7 +108,6 @@ full_of v l = ⊎_elim
     (λ ne.
     let b = highest_bounds v (omega arith) (omega arith) in
     let few : highest v ≤ 62 = highest_below v 62 (omega arith) (omega arith) (omega arith) in
-    let n : ℕ = highest v / 3 in
     let p : 8 ^ suc (highest v / 3) ≡ 2 ^ (3 * suc (highest v / 3)) = eights (suc (highest v / 3)) in
     let q : 8 ^ (highest v / 3) ≡ 2 ^ (3 * (highest v / 3)) = eights (highest v / 3) in
     let up : 2 ^ suc (highest v) ≤ 2 ^ (3 * suc (highest v / 3)) = pow_mono (let t : suc (highest v) ≤ 3 * suc (highest v / 3) = omega arith in t) in
@@ -141,16 +130,11 @@ none_from z apart v l = (
 
 -- a word by its open digits and its last
 pub split_word : (v : ℕ) → v ≤ 2 ^ 63 - 1 → nibble v ≡ open_digits (highest v / 3) (v / 8) ++ (true ∷ low_bits 3 (v % 8))
-split_word v l =
-    let f = full_of v l in
-    let e : v / 8 * 8 + v % 8 ≡ v = omega arith in
-    let g : IsFull (highest v / 3) (v / 8 * 8 + v % 8) = subst (λ m. IsFull (highest v / 3) m) (sym e) f.0 in
-    ap nibble (sym e) ∙ nibble_is (highest v / 3) (v / 8) (v % 8) f.1 (omega arith) g
+split_word v l = grind (arith, full_of, nibble_is)
 
 -- 21 open digits
 pub too_many : (u : ℕ) (z y : List Bool) → z ≡ open_digits 20 u ++ (false ∷ y) → Reads nibble (2 ^ 63 - 1) z NoWord
 too_many u z y e = none_from z (λ v x w l h.
-    let n : ℕ = highest v / 3 in
     let open_v : List Bool = open_digits (highest v / 3) (v / 8) in
     let open_u : List Bool = open_digits 20 u in
     let left : open_v ++ (true ∷ (low_bits 3 (v % 8) ++ x)) ≡ nibble v ++ x =
@@ -171,7 +155,6 @@ first_digit (suc n) v x y f e =
     sym (append_assoc a t (last ++ x)) ∙ sym (append_assoc (a ++ t) last x) ∙ g in
     let s : low_bits 3 (v / 8 / 8 ^ n) ≡ low_bits 3 0 = same_fronts a (low_bits 3 0) _ _ (length-low_bits 3 (v / 8 / 8 ^ n) ∙ sym (length-low_bits 3 0)) h in
     let p : 8 ^ suc n ≡ 8 * 8 ^ n = omega (arith, pow-suc 8 n) in
-    let q : 8 ^ suc (suc n) ≡ 8 ^ suc n * 8 = pow-suc 8 (suc n) in
     let pos : 0 < 8 ^ suc n = eights_pos (suc n) in
     let d : v / 8 / 8 ^ n ≡ v / 8 ^ suc n = div-div-eq-div-mul v 8 (8 ^ n) ∙ ap (λ m. v / m) (sym p) in
     let most : v / 8 ^ suc n < 8 = div_below v (8 ^ suc n) 8 pos (omega (arith, f.0)) in
@@ -195,15 +178,11 @@ pub open_none : IsOpen 0 0
 open_none = (omega arith, inl refl)
 
 pub full_from : (d u t : ℕ) → IsOpen d u → t < 8 → IsFull d (u * 8 + t)
-full_from d u t o l =
-    let p : 8 ^ suc d ≡ 8 ^ d * 8 = pow-suc 8 d in
-    let h : u < 8 ^ d = o.0 in
-    (omega arith, ⊎_elim (λ (e : d ≡ 0). inl e) (λ (g : 8 ^ d ≤ u * 8). inr (omega arith)) o.1)
+full_from d u t o l = grind arith
 
 pub open_next : (d u t : ℕ) → IsOpen d u → t < 8 → (u * 8 + t ≡ 0 → ⊥) → IsOpen (d + 1) (u * 8 + t)
 open_next d u t o l some =
-    let p : 8 ^ suc d ≡ 8 ^ d * 8 = pow-suc 8 d in
-    let q : 8 ^ (d + 1) ≡ 8 ^ d * 8 = ap (λ m. 8 ^ m) (add-one d) ∙ p in
+    let q : 8 ^ (d + 1) ≡ 8 ^ d * 8 = ap (λ m. 8 ^ m) (add-one d) ∙ pow-suc 8 d in
     let h : u < 8 ^ d = o.0 in (
       omega arith,
       ⊎_elim
@@ -258,8 +237,6 @@ digit_cut d u z z1 z2 true few o more e f short =
     )
 digit_cut d u z z1 z2 false few o more e f short =
     let t = filled_odd z2 3 short in
-    let k : ℕ = t.0 in
-    let some : 0 < t.0 = t.3 in
     let o1 : IsOpen (d + 1) (u * 8 + t.0) = open_next d u t.0 o t.1 (λ z. omega arith) in
     let few1 : d ≤ 19 = more refl in
     let w = word_from (d + 1) (u * 8 + t.0) 0 (omega arith) o1 (omega arith) in
@@ -267,7 +244,6 @@ digit_cut d u z z1 z2 false few o more e f short =
     let opened : open_digits (d + 1) (u * 8 + t.0) ≡ z ++ t.2.0 =
     ap (λ m. open_digits m (u * 8 + t.0)) (add-one d) ∙ open_more d u t.0 t.1 ∙ ap (λ x. open_digits d u ++ (false ∷ x)) t.2.2
     ∙ sym (append_assoc (open_digits d u) (false ∷ z2) t.2.0) ∙ ap (λ x. x ++ t.2.0) (sym here) in
-    let rest_of : List Bool = t.2.0 ++ (true ∷ low_bits 3 0) in
     let longer : 0 < length (t.2.0 ++ (true ∷ low_bits 3 0)) = omega (arith, length-append t.2.0 (true ∷ low_bits 3 0), t.2.1) in (
       (u * 8 + t.0) * 8 + 0,
       w.1,
@@ -294,7 +270,6 @@ no_digits u z = refl
 pub zero_digit : (d u t : ℕ) (z z1 z2 z3 : List Bool) (last : Bool) → t < 8 → IsOpen d u → u * 8 + t ≡ 0 → last ≡ false
     → z ≡ open_digits d u ++ z1 → z1 ≡ last ∷ z2 → z2 ≡ low_bits 3 t ++ z3 → Reads nibble (2 ^ 63 - 1) z NoWord
 zero_digit d u t z z1 z2 z3 last l o none is e f g =
-    let pos : 0 < 8 ^ d = eights_pos d in
     let d0 : d ≡ 0 = ⊎_elim (λ (x : d ≡ 0). x) (λ (x : 8 ^ d ≤ u * 8). absurd (omega arith)) o.1 in
     let t0 : t ≡ 0 = omega arith in
     zero_first z z3 (e ∙ ap (λ m. open_digits m u ++ z1) d0 ∙ no_digits u z1 ∙ f ∙ ap (λ b. b ∷ z2) is ∙ ap (λ x. false ∷ x) (g ∙ ap (λ m. low_bits 3 m ++ z3) t0))
@@ -322,15 +297,12 @@ nibble_place d u t p q r s few o l e f g =
     g ∙ ap (λ x. moved x 3) f ∙ ap (λ x. moved (moved x 1) 3) e ∙ ap (λ a. let x : Position = record { bits = p.bits; at = a } in x) sum
 
 pub digit_place : (d : ℕ) (p q r s : Position) → q ≡ moved p (4 * d) → r ≡ moved q 1 → s ≡ moved r 3 → s ≡ moved p (4 * (d + 1))
-digit_place d p q r s e f g =
-    let sum : p.at + 4 * d + 1 + 3 ≡ p.at + 4 * (d + 1) = omega arith in
-    g ∙ ap (λ x. moved x 3) f ∙ ap (λ x. moved (moved x 1) 3) e ∙ ap (λ a. let x : Position = record { bits = p.bits; at = a } in x) sum
+digit_place d p q r s e f g = grind arith
 
 pub value_small : (d u : ℕ) → d ≤ 20 → IsOpen d u → u < 2 ^ 60
 value_small d u few o =
     let p : 2 ^ (3 * d) ≤ 2 ^ 60 = pow_mono (let s : 3 * d ≤ 60 = omega arith in s) in
     let e : 8 ^ d ≡ 2 ^ (3 * d) = eights d in
-    let h : u < 8 ^ d = o.0 in
     omega arith
 
 pub nothing_read : (p : Position) → rest p ≡ open_digits 0 0 ++ rest p

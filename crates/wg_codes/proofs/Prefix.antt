@@ -37,7 +37,6 @@ value_not_cut words most free z v f c =
     let w : ℕ = c.0 in
     let e : words w ≡ words v ++ (a ++ t) = c.2.2 ∙ ap (λ y. y ++ t) f.1.1 ∙ append_assoc (words v) a t in
     let same : w ≡ v = free w v [] (a ++ t) c.1 f.0 (append-nil (words w) ∙ e) in
-    let some : 0 < length t = c.2.1 in
     longer (words v) (a ++ t) (omega (arith, length-append a t)) (ap words (sym same) ∙ e)
 
 -- only one case holds, with one value
@@ -72,7 +71,6 @@ pub cut_head : (words heads tail : ℕ → List Bool) (head : ℕ → ℕ) (most
     → (z : List Bool) (v : ℕ) → v ≤ most → ProperlyBegins z (heads (head v)) → Reads words most z Cut
 cut_head words heads tail head most most_head split z v lv p =
     let s = split v lv in
-    let some : 0 < length p.0 = p.1 in
     (v, lv, (p.0 ++ tail v, omega (arith, length-append p.0 (tail v)), s.0 ∙ ap (λ y. y ++ tail v) p.2 ∙ append_assoc z p.0 (tail v)))
 
 pub cut_tail : (words heads tail : ℕ → List Bool) (head : ℕ → ℕ) (most most_head : ℕ) → Headed words heads tail head most most_head
@@ -109,20 +107,13 @@ rest-moved p k = sym (drop-drop k p.at p.bits)
 -- behind the word that was read stands the rest
 pub rest_after : (words : ℕ → List Bool) (most : ℕ) (old new : Position) (v : ℕ) → Reads words most (rest old) (Value v) → new ≡ after words old (Value v)
     → rest old ≡ words v ++ rest new
-rest_after words most old new v f e =
-    let t : List Bool = f.1.0 in
-    let r : rest new ≡ t =
-    ap rest e ∙ rest-moved old (length (words v)) ∙ ap (drop (length (words v))) f.1.1 ∙ drop_at (words v) t (length (words v)) refl in
-    f.1.1 ∙ ap (λ z. words v ++ z) (sym r)
+rest_after words most old new v f e = grind (arith, drop_at, rest-moved)
 
 -- what stands between the places
 pub passes : (words : ℕ → List Bool) (most : ℕ) (p q : Position) (r : Read) → Reads words most (rest p) r → q ≡ after words p r → Passes words p q r
 passes words most p q (Value v) f e = rest_after words most p q v f e
-passes words most p q Cut f e = ap rest (sym e)
-passes words most p q NoWord f e = ap rest (sym e)
+passes words most p q _ f e = ap rest (sym e)
 
 -- back at the offset where it began
 pub restored : (old q r s : Position) (w a : ℕ) → q ≡ moved old w → r ≡ q → a ≡ old.at → s ≡ (let x : Position = record { bits = r.bits; at = a } in x) → s ≡ old
-restored old q r s w a e f g h =
-    let b : r.bits ≡ old.bits = ap (λ p. let x : Position = p in x.bits) (f ∙ e) in
-    h ∙ ap (λ z. let x : Position = record { bits = z; at = a } in x) b ∙ ap (λ n. let x : Position = record { bits = old.bits; at = n } in x) g
+restored old q r s w a e f g h = grind arith

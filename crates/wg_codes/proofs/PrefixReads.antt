@@ -1,5 +1,5 @@
 -- What is read at a prefix of some bits, and what at all of them.
-use Rattle.std.proofs.Common.{◌≡◌, ◌≢◌, ◌⊎◌, ℕ, ◌<◌, ◌≤◌, Bool, List, [], ◌++◌, length, take, drop, refl, sym, ◌∙◌, ap, subst, ⊎_elim, arith, append_assoc, length-append, length-drop}
+use Rattle.std.proofs.Common.{◌≡◌, ◌≢◌, ◌⊎◌, ℕ, ◌<◌, ◌≤◌, Bool, List, [], ◌++◌, length, take, drop, refl, sym, ◌∙◌, ap, ⊎_elim, arith, append_assoc, length-append, length-drop}
 use Rattle.std.proofs.Math.Seq.{take-append_seam}
 use Rattle.std.proofs.lemmas.List.{take-append-le, take-append-drop, append-nil}
 use Rattle.std.proofs.lemmas.Bool.{cases_lt}
@@ -47,10 +47,7 @@ prefix_tells c z t Cut whole r = absurd (whole refl)
 pub prefix_reads : (c : Code) (z t : List Bool) (r : Read) → IsCode c → c ≢ Unary → (128 ≤ length z) ⊎ (t ≡ []) → Reads (word c) (top c) z r → Reads (word c) (top c) (z ++ t) r
 prefix_reads c z t (Value v) is other enough r = prefix_value (word c) (top c) v z t r
 prefix_reads c z t NoWord is other enough r = prefix_no_word (word c) (top c) z t r
-prefix_reads c z t Cut is other enough r = ⊎_elim
-    (λ (many : 128 ≤ length z). absurd (never_cut c z is other many r))
-    (λ (none : t ≡ []). subst (λ (x : List Bool). Reads (word c) (top c) x Cut) (sym (ap (λ (x : List Bool). z ++ x) none ∙ append-nil z)) r)
-    enough
+prefix_reads c z t Cut is other enough r = grind (arith, append-nil, never_cut)
 
 pub prefixes_tell : PrefixesTell
 prefixes_tell c is z behind r = prefix_tells c z behind r

@@ -1,5 +1,5 @@
 -- A word that stands at some bits is the one that is read there, and its value is a function of the bits.
-use Rattle.std.proofs.Common.{◌≡◌, ℕ, ◌<◌, ◌≤◌, Bool, true, false, inl, inr, List, ◌++◌, length, drop, refl, sym, ap, ◌∙◌, arith}
+use Rattle.std.proofs.Common.{◌≡◌, ℕ, ◌<◌, ◌≤◌, Bool, true, false, inl, inr, List, ◌++◌, length, drop, refl, ap, arith}
 use Rattle.std.proofs.Math.Bool.{beq}
 use Rattle.std.specs.Cmp.{booleans_Decides}
 use Rattle.std.specs.List.{starts_with}
@@ -31,9 +31,7 @@ not_none c v bits behind stand none = (none v stand.0).0 (behind, stand.1)
 
 -- the word that was read is the one that stands there
 pub read_one : (c : Code) → IsCode c → (v w : ℕ) (bits behind after : List Bool) → IsWord c v bits behind → w ≤ top c → bits ≡ word c w ++ after → (v ≡ w) × (behind ≡ after)
-read_one c is v w bits behind after stand le e =
-    let same : v ≡ w = words_free c is v w behind after stand.0 le (sym stand.1 ∙ e) in
-    (same, append_cancel_left (word c w) behind after (ap (λ (k : ℕ). word c k ++ behind) (sym same) ∙ sym stand.1 ∙ e))
+read_one c is v w bits behind after stand le e = grind (arith, append_cancel_left, words_free)
 
 -- ---- the value as a function of the bits
 
@@ -58,5 +56,4 @@ value_is c is v bits behind stand =
 -- what stands behind it
 pub behind_is : (c : Code) → IsCode c → (v : ℕ) (bits behind : List Bool) → IsWord c v bits behind → behind_value c bits ≡ behind
 unfolding behind_value
-behind_is c is v bits behind stand =
-    ap (λ (k : ℕ). drop (length (word c k)) bits) (value_is c is v bits behind stand) ∙ ap (λ (l : List Bool). drop (length (word c v)) l) stand.1 ∙ drop_at (word c v) behind (length (word c v)) refl
+behind_is c is v bits behind stand = grind (arith, drop_at, value_is)

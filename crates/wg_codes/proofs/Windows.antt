@@ -22,9 +22,7 @@ no_ones = refl
 -- a one after m zeros is the unary word of m
 unary_bits : (m : ℕ) → low_bits (m + 1) 1 ≡ unary m
 unfolding unary
-unary_bits m =
-    let half : 1 / 2 ^ 1 ≡ 0 = omega arith in
-    low_bits-add m 1 1 ∙ ap (λ k. low_bits m k ++ low_bits 1 1) half ∙ ap (λ z. z ++ low_bits 1 1) (low_bits-zero m) ∙ ap (λ z. replicate m false ++ z) one_bit_one
+unary_bits m = grind (arith, replicate, low_bits-add, low_bits-zero, one_bit_one)
 
 -- a gamma word is 2 * m + 1 bits of its number
 pub gamma_bits : (m y : ℕ) → m ≤ 62 → 2 ^ m ≤ y → y < 2 ^ suc m → low_bits (2 * m + 1) y ≡ gamma (y - 1)
@@ -33,12 +31,10 @@ gamma_bits m y few low high =
     let pos : 0 < 2 ^ m = pow_pos m in
     let back : y - 1 + 1 ≡ y = omega arith in
     let index : highest (y - 1 + 1) ≡ m = ap highest back ∙ highest_is y m low high (omega arith) in
-    let p : 2 ^ suc m ≡ 2 ^ m * 2 = pow-suc 2 m in
     let least : 1 ≤ y / 2 ^ m = le-div 1 y (2 ^ m) pos (omega arith) in
     let most : y / 2 ^ m < 2 = div_below y (2 ^ m) 2 pos (omega arith) in
-    let one : y / 2 ^ m ≡ 1 = omega arith in
     let sum : 2 * m + 1 ≡ m + 1 + m = omega arith in
-    ap (λ k. low_bits k y) sum ∙ low_bits-add (m + 1) m y ∙ ap (λ k. low_bits (m + 1) k ++ low_bits m y) one
+    ap (λ k. low_bits k y) sum ∙ low_bits-add (m + 1) m y ∙ ap (λ k. low_bits (m + 1) k ++ low_bits m y) (omega arith)
     ∙ ap (λ z. z ++ low_bits m y) (unary_bits m)
     ∙ ap (λ k. unary m ++ low_bits m k) (sym back) ∙ ap (λ k. unary k ++ low_bits k (y - 1 + 1)) (sym index)
 
@@ -49,7 +45,6 @@ window_number w m l e few = ⊎_elim
     (λ (z : w ≡ 0). let h : count_leading_zeros 64 w ≡ 64 = ap (count_leading_zeros 64) z ∙ no_ones in absurd (omega arith))
     (λ ne.
     let t = leading_top 64 w (omega arith) l in
-    let j : ℕ = t.0 in
     let index : m + (63 - 2 * m) ≡ t.0 = omega (arith, t.1) in
     let next : suc m + (63 - 2 * m) ≡ suc t.0 = omega (arith, t.1) in
     let a : 2 ^ m * 2 ^ (63 - 2 * m) ≡ 2 ^ t.0 = sym (pow-add 2 m (63 - 2 * m)) ∙ ap (λ k. 2 ^ k) index in
@@ -63,15 +58,13 @@ pub fast_found : (z : List Bool) (w m most : ℕ) → w < 2 ^ 64 → m ≡ count
     → Reads gamma (2 ^ (most + 1) - 2) z (Value (w / 2 ^ (63 - 2 * m) - 1))
 fast_found z w m most l e few lm cap agree fits =
     let n = window_number w m l e few in
-    let y : ℕ = w / 2 ^ (63 - 2 * m) in
-    let shift : 64 - (2 * m + 1) ≡ 63 - 2 * m = omega arith in
     let front : z ≡ low_bits (2 * m + 1) (w / 2 ^ (64 - (2 * m + 1))) ++ drop (2 * m + 1) z =
     first_bits z w (2 * m + 1) (omega arith) (omega arith) agree fits in
     let up : 2 ^ suc m ≤ 2 ^ (most + 1) = pow_mono (let s : suc m ≤ most + 1 = omega arith in s) in (
       omega arith,
       (
         drop (2 * m + 1) z,
-        front ∙ ap (λ k. low_bits (2 * m + 1) (w / 2 ^ k) ++ drop (2 * m + 1) z) shift
+        front ∙ ap (λ k. low_bits (2 * m + 1) (w / 2 ^ k) ++ drop (2 * m + 1) z) (omega arith)
             ∙ ap (λ x. x ++ drop (2 * m + 1) z) (gamma_bits m (w / 2 ^ (63 - 2 * m)) (omega arith) n.0 n.1),
       ),
     )
@@ -87,7 +80,6 @@ window_field w h n l e few = ⊎_elim
     (λ (z : w ≡ 0). let c : count_leading_zeros 64 w ≡ 64 = ap (count_leading_zeros 64) z ∙ no_ones in absurd (omega arith))
     (λ ne.
     let t = leading_top 64 w (omega arith) l in
-    let j : ℕ = t.0 in
     let index : n + (63 - h - n) ≡ t.0 = omega (arith, t.1) in
     let next : suc n + (63 - h - n) ≡ suc t.0 = omega (arith, t.1) in
     let a : 2 ^ n * 2 ^ (63 - h - n) ≡ 2 ^ t.0 = sym (pow-add 2 n (63 - h - n)) ∙ ap (λ k. 2 ^ k) index in
@@ -104,10 +96,8 @@ pub field_behind : (w h n : ℕ) → w < 2 ^ 64 → h ≡ count_leading_zeros 64
     → w * 2 ^ h % 2 ^ 64 * 2 % 2 ^ 64 / 2 ^ (64 - n) ≡ w / 2 ^ (63 - h - n) - 2 ^ n
 field_behind w h n l e few =
     let f = window_field w h n l e few in
-    let d : ℕ = 2 ^ (63 - h - n) in
     let t : ℕ = w / 2 ^ (63 - h - n) - 2 ^ n in
     let r : ℕ = w % 2 ^ (63 - h - n) in
-    let p : 2 ^ suc n ≡ 2 ^ n * 2 = pow-suc 2 n in
     let small : w % 2 ^ (63 - h - n) < 2 ^ (63 - h - n) = mod_below w (2 ^ (63 - h - n)) (pow_pos (63 - h - n)) in
     let wide : 2 ^ (63 - h - n) * 2 ^ suc h ≡ 2 ^ (64 - n) =
     sym (pow-add 2 (63 - h - n) (suc h)) ∙ ap (λ k. 2 ^ k) (let s : 63 - h - n + suc h ≡ 64 - n = omega arith in s) in
@@ -119,15 +109,13 @@ field_behind w h n l e few =
     ∙ shifted_out (w / 2 ^ (63 - h - n)) (2 ^ (63 - h - n)) r (2 ^ suc h) (2 ^ h) t (2 ^ n) (pow-suc 2 h) (omega (arith, f.0))
     ∙ ap (λ m. t * m + r * 2 ^ suc h + 2 ^ n * m) wide ∙ ap (λ m. t * 2 ^ (64 - n) + r * 2 ^ suc h + m) all in
     let low : t * 2 ^ (64 - n) + r * 2 ^ suc h < 2 ^ (64 - n) * 2 ^ n = mul-add-lt t (2 ^ (64 - n)) (r * 2 ^ suc h) (2 ^ n) (omega (arith, f.1)) under in
-    let left : w * 2 ^ h % 2 ^ 64 * 2 % 2 ^ 64 ≡ t * 2 ^ (64 - n) + r * 2 ^ suc h = omega (arith, twice, low, all) in
-    ap (λ m. m / 2 ^ (64 - n)) left ∙ div-mul-add t (2 ^ (64 - n)) (r * 2 ^ suc h) under
+    ap (λ m. m / 2 ^ (64 - n)) (omega (arith, twice, low, all)) ∙ div-mul-add t (2 ^ (64 - n)) (r * 2 ^ suc h) under
 
 headed_front : (z : List Bool) (w h n : ℕ) → w < 2 ^ 64 → h ≡ count_leading_zeros 64 w → h + n ≤ 63
     → ((i : ℕ) → i < 64 → get_or (low_bits 64 w) i false ≡ get_or z i false) → h + n + 1 ≤ length z
     → (w / 2 ^ (63 - h - n) - 2 ^ n < 2 ^ n) × (z ≡ unary h ++ (low_bits n (w / 2 ^ (63 - h - n) - 2 ^ n) ++ drop (h + n + 1) z))
 headed_front z w h n l e few agree fits =
     let f = window_field w h n l e few in
-    let p : 2 ^ suc n ≡ 2 ^ n * 2 = pow-suc 2 n in
     let shift : 64 - (h + n + 1) ≡ 63 - h - n = omega arith in
     let small : w / 2 ^ (63 - h - n) - 2 ^ n < 2 ^ n = omega (arith, f.0, f.1) in
     let whole : w / 2 ^ (63 - h - n) ≡ 2 ^ n + (w / 2 ^ (63 - h - n) - 2 ^ n) = omega (arith, f.0) in (
@@ -157,7 +145,6 @@ longer_field w h n few some =
     let t : n ≡ suc (n - 1) = omega arith in
     let q : 2 ^ n ≡ 2 ^ (n - 1) * 2 = ap (λ m. 2 ^ m) t ∙ pow-suc 2 (n - 1) in
     let half : w / 2 ^ (63 - h - n) / 2 ≡ w / 2 ^ (64 - h - n) = div-div-eq-div-mul w (2 ^ (63 - h - n)) 2 ∙ ap (λ m. w / m) (sym p) in
-    let x : ℕ = w / 2 ^ (63 - h - n) in
     omega arith
 
 pub window_short : (z : List Bool) (k w h least long : ℕ) → 1 ≤ k → k ≤ 31 → w < 2 ^ 64 → h ≡ count_leading_zeros 64 w
@@ -194,12 +181,10 @@ window_long z k w h least long some few l e fits el et more agree enough =
     let f = headed_front z w h (h * k + k) l e (omega arith) agree enough in
     let up : h * k + k ≡ suc (h * k + k - 1) = omega arith in
     let q : 2 ^ (h * k + k) ≡ 2 ^ (h * k + k - 1) * 2 = ap (λ m. 2 ^ m) up ∙ pow-suc 2 (h * k + k - 1) in
-    let split : long ≡ 2 * low + long % 2 = omega arith in
     let bit : long % 2 < 2 = omega arith in
     let value : long - 1 ≡ 2 * low + long % 2 - 1 = omega arith in
     let room : h * k + k ≤ 63 = omega arith in
     let above : 2 ^ (h * k) ≤ low = subst (λ m. m ≤ low) el more in
-    let small : long < 2 ^ (h * k + k) = subst (λ m. m < 2 ^ (h * k + k)) (sym et) f.0 in
     let below : low < 2 ^ (h * k + k - 1) = omega arith in
     let sum : h * k + k - 1 + 1 ≡ h * k + k = omega arith in
     let last : low_bits 1 long ≡ low_bits 1 (long % 2) =

@@ -24,9 +24,8 @@ marked_small n t l = let p : 2 ^ (n + 1) ≡ 2 ^ n * 2 = ap (λ m. 2 ^ m) (add-o
 
 marked_field : (n t : ℕ) → t < 2 ^ n → low_bits (n + 1) (2 ^ n + t) ≡ true ∷ low_bits n t
 marked_field n t l =
-    let sum : n + 1 ≡ 1 + n = omega arith in
     let one : 2 ^ n + t ≡ 1 * 2 ^ n + t = omega arith in
-    ap (λ k. low_bits k (2 ^ n + t)) sum ∙ low_bits-add 1 n (2 ^ n + t)
+    ap (λ k. low_bits k (2 ^ n + t)) (omega arith) ∙ low_bits-add 1 n (2 ^ n + t)
     ∙ ap (λ k. low_bits 1 k ++ low_bits n (2 ^ n + t)) (ap (λ k. k / 2 ^ n) one ∙ shr_high 1 n t l)
     ∙ ap (λ z. z ++ low_bits n (2 ^ n + t)) one_bit_one
     ∙ ap (λ z. true ∷ z) (ap (low_bits n) one ∙ low_bits-above n 1 t)
@@ -58,7 +57,6 @@ field_of v m p l e ep =
     let few : highest (v + 1) ≤ 62 = highest_below (v + 1) 62 (omega arith) (omega arith) (omega arith) in
     let low : 2 ^ m ≤ v + 1 = subst (λ k. 2 ^ k ≤ v + 1) (sym e) b.0 in
     let high : v + 1 < 2 ^ suc m = subst (λ k. v + 1 < 2 ^ suc k) (sym e) b.1 in
-    let two : 2 ^ suc m ≡ 2 ^ m * 2 = pow-suc 2 m in
     let whole : 1 * 2 ^ m + (v + 1 - p) ≡ v + 1 = omega arith in
     (omega arith, omega arith, omega arith, sym (low_bits-above m 1 (v + 1 - p)) ∙ ap (low_bits m) whole ∙ ap (λ k. low_bits k (v + 1)) e)
 

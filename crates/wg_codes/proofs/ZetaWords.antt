@@ -1,5 +1,5 @@
 use Rattle.std.proofs.Common.{◌≡◌, ℕ, suc, ◌+◌, ◌-◌, ◌*◌, ◌/◌, ◌%◌, ◌^◌, ◌<◌, ◌≤◌, Bool, true, false, List, [], ◌++◌, length, refl, sym, ap, ◌∙◌, subst, ⊎_elim, arith, length-append, append_assoc}
-use Rattle.std.proofs.Math.Nat.{pow-suc, div-eq_of_lt-le, div-mul-le_self, mul_comm, lt-div-mul-add}
+use Rattle.std.proofs.Math.Nat.{pow-suc, div-eq_of_lt-le, div-mul-le_self, mul_comm}
 use Rattle.std.proofs.Math.Dec.{ltb}
 use Rattle.std.proofs.Math.Pow.{pow_mono}
 use Rattle.std.proofs.lemmas.Nat.{pow_pos, div_below, mul-le, le-div, one_shl}
@@ -17,10 +17,7 @@ use Rattle.wg_codes.proofs.UnaryWords.{free_unary, length-unary}
 
 -- all of it fits
 pub room : (k h : ℕ) → h < 63 / k → h * k + k ≤ 63
-room k h l =
-    let a : (h + 1) * k ≤ 63 / k * k = mul-le (h + 1) k (63 / k) k (omega arith) (omega arith) in
-    let b : 63 / k * k ≤ 63 = div-mul-le_self 63 k in
-    omega arith
+room k h l = grind arith
 
 -- the index of a number between the powers
 place_between : (k h y : ℕ) → 1 ≤ k → h * k + k ≤ 63 → 2 ^ (h * k) ≤ y → y < 2 ^ (h * k + k) → highest y / k ≡ h
@@ -37,17 +34,11 @@ pub short_form : (k h t : ℕ) → 1 ≤ k → h * k + k ≤ 63 → t < 2 ^ (h *
     → (highest (2 ^ (h * k) + t - 1 + 1) / k ≡ h) × (2 ^ (h * k) + t - 1 < 2 ^ (h * k + k) - 1)
     × (shortened k h (2 ^ (h * k) + t - 1 + 1) ≡ low_bits (h * k + k - 1) t)
 short_form k h t some few l =
-    let least : ℕ = 2 ^ (h * k) in
-    let pos : 0 < 2 ^ (h * k) = pow_pos (h * k) in
-    let y : ℕ = 2 ^ (h * k) + t - 1 + 1 in
-    let ey : 2 ^ (h * k) + t - 1 + 1 ≡ 2 ^ (h * k) + t = omega arith in
-    let e : 2 ^ (h * k) + t - 1 + 1 - 2 ^ (h * k) ≡ t = omega arith in
     let up : 2 ^ suc (h * k) ≤ 2 ^ (h * k + k) = pow_mono (let s : suc (h * k) ≤ h * k + k = omega arith in s) in
-    let p : 2 ^ suc (h * k) ≡ 2 ^ (h * k) * 2 = pow-suc 2 (h * k) in
     let test : ltb (2 ^ (h * k) + t - 1 + 1 - 2 ^ (h * k)) (2 ^ (h * k)) ≡ true = lt-ltb _ _ (omega arith) in (
       place_between k h (2 ^ (h * k) + t - 1 + 1) some few (omega arith) (omega arith),
       omega arith,
-      cond-true _ _ _ test ∙ ap (low_bits (h * k + k - 1)) e,
+      cond-true _ _ _ test ∙ ap (low_bits (h * k + k - 1)) (omega arith),
     )
 
 pub long_form : (k h t b : ℕ) → 1 ≤ k → h * k + k ≤ 63 → t < 2 ^ (h * k + k - 1) → 2 ^ (h * k) ≤ t → b < 2
@@ -55,11 +46,9 @@ pub long_form : (k h t b : ℕ) → 1 ≤ k → h * k + k ≤ 63 → t < 2 ^ (h 
     × (shortened k h (2 * t + b - 1 + 1) ≡ low_bits (h * k + k - 1) t ++ low_bits 1 b)
 long_form k h t b some few l low lb =
     let pos : 0 < 2 ^ (h * k) = pow_pos (h * k) in
-    let w : ℕ = h * k + k - 1 in
     let sum : h * k + k - 1 + 1 ≡ h * k + k = omega arith in
     let suc_sum : suc (h * k + k - 1) ≡ h * k + k = omega arith in
     let p : 2 ^ (h * k + k) ≡ 2 ^ (h * k + k - 1) * 2 = ap (λ m. 2 ^ m) (sym suc_sum) ∙ pow-suc 2 (h * k + k - 1) in
-    let y : ℕ = 2 * t + b - 1 + 1 in
     let ey : 2 * t + b - 1 + 1 ≡ 2 * t + b = omega arith in
     let test : ltb (2 * t + b - 1 + 1 - 2 ^ (h * k)) (2 ^ (h * k)) ≡ false = le-ltb _ _ (omega arith) in
     let half : (2 * t + b - 1 + 1) / 2 ^ 1 ≡ t = omega arith in
@@ -131,10 +120,7 @@ quotient_some k some few = let h : 1 ≤ 63 / k = le-div 1 63 k (omega arith) (o
 pub headed_zeta : (k : ℕ) → 1 ≤ k → k ≤ 31 → Headed (zeta k) unary (zeta_tail k) (zeta_head k) (zeta_top k) (63 / k - 1)
 unfolding zeta
 headed_zeta k some few v l =
-    let q : 0 < 63 / k = quotient_some k some few in
-    let fits : 63 / k * k ≤ 63 = div-mul-le_self 63 k in
     let turn : k * (63 / k) ≡ 63 / k * k = mul_comm k (63 / k) in
-    let least : 1 * 1 ≤ 63 / k * k = mul-le 1 1 (63 / k) k q some in
     let pos : 2 ≤ 2 ^ (k * (63 / k)) = subst (λ m. 2 ≤ 2 ^ m) (sym turn) (let b : 1 ≤ 63 / k * k = omega arith in let a : 2 ^ 1 ≤ 2 ^ (63 / k * k) = pow_mono b in a) in
     let step : suc (k * (63 / k) - 1) ≡ k * (63 / k) = omega arith in
     let most : highest (v + 1) ≤ k * (63 / k) - 1 =
@@ -144,12 +130,9 @@ headed_zeta k some few v l =
 
 pub bounds_of : (k v : ℕ) → 1 ≤ k → k ≤ 31 → v ≤ zeta_top k → (2 ^ (highest (v + 1) / k * k) ≤ v + 1) × (v + 1 < 2 ^ (highest (v + 1) / k * k + k))
 bounds_of k v some few l =
-    let fits : 63 / k * k ≤ 63 = div-mul-le_self 63 k in
-    let turn : k * (63 / k) ≡ 63 / k * k = mul_comm k (63 / k) in
     let big : 2 ^ (k * (63 / k)) ≤ 2 ^ 63 = pow_mono (let s : k * (63 / k) ≤ 63 = omega arith in s) in
     let b = highest_bounds (v + 1) (omega arith) (omega arith) in
     let low : highest (v + 1) / k * k ≤ highest (v + 1) = div-mul-le_self (highest (v + 1)) k in
-    let high : highest (v + 1) < highest (v + 1) / k * k + k = lt-div-mul-add some in
     let down : 2 ^ (highest (v + 1) / k * k) ≤ 2 ^ highest (v + 1) = pow_mono low in
     let up : 2 ^ suc (highest (v + 1)) ≤ 2 ^ (highest (v + 1) / k * k + k) = pow_mono (let s : suc (highest (v + 1)) ≤ highest (v + 1) / k * k + k = omega arith in s) in
     (omega arith, omega arith)
@@ -159,11 +142,9 @@ pub tails_apart : (k h y z : ℕ) (a b : List Bool) → 1 ≤ k → h * k + k �
     → 2 ^ (h * k) ≤ y → y < 2 ^ (h * k + k) → 2 ^ (h * k) ≤ z → z < 2 ^ (h * k + k)
     → shortened k h y ++ a ≡ shortened k h z ++ b → y ≡ z
 tails_apart k h y z a b some few ly hy lz hz e =
-    let w : ℕ = h * k + k - 1 in
     let sum : h * k + k - 1 + 1 ≡ h * k + k = omega arith in
     let suc_sum : suc (h * k + k - 1) ≡ h * k + k = omega arith in
     let p : 2 ^ (h * k + k) ≡ 2 ^ (h * k + k - 1) * 2 = ap (λ m. 2 ^ m) (sym suc_sum) ∙ pow-suc 2 (h * k + k - 1) in
-    let narrow : 2 ^ (h * k) ≤ 2 ^ (h * k + k - 1) = pow_mono (let s : h * k ≤ h * k + k - 1 = omega arith in s) in
     let short : (x : ℕ) → x - 2 ^ (h * k) < 2 ^ (h * k) → shortened k h x ≡ low_bits (h * k + k - 1) (x - 2 ^ (h * k)) =
     λ x l. cond-true _ _ _ (lt-ltb _ _ l) in
     let long : (x : ℕ) → 2 ^ (h * k) ≤ x - 2 ^ (h * k) → shortened k h x ≡ low_bits (h * k + k - 1) (x / 2 ^ 1) ++ low_bits 1 x =
@@ -185,11 +166,10 @@ tails_apart k h y z a b some few ly hy lz hz e =
     let f : y / 2 ^ 1 ≡ z - 2 ^ (h * k) = front (y / 2 ^ 1) (z - 2 ^ (h * k)) (low_bits 1 y ++ a) b
     (sym (append_assoc (low_bits (h * k + k - 1) (y / 2 ^ 1)) (low_bits 1 y) a) ∙ ap (λ x. x ++ a) (sym (long y gy)) ∙ e ∙ ap (λ x. x ++ b) (short z sz)) (omega arith) (omega arith) in omega arith)
     (λ (gz : 2 ^ (h * k) ≤ z - 2 ^ (h * k)).
-    let ey : shortened k h y ≡ low_bits (h * k + k) y = cond-false _ _ _ (le-ltb _ _ gy) in
     let ez : shortened k h z ≡ low_bits (h * k + k) z = cond-false _ _ _ (le-ltb _ _ gz) in
     low_bits-injective (h * k + k) y z hy hz
     (same_fronts (low_bits (h * k + k) y) (low_bits (h * k + k) z) a b (length-low_bits _ y ∙ sym (length-low_bits _ z))
-    (ap (λ x. x ++ a) (sym ey) ∙ e ∙ ap (λ x. x ++ b) ez)))
+    (ap (λ x. x ++ a) (sym (cond-false _ _ _ (le-ltb _ _ gy))) ∙ e ∙ ap (λ x. x ++ b) ez)))
     (cases_lt (z - 2 ^ (h * k)) (2 ^ (h * k))))
     (cases_lt (y - 2 ^ (h * k)) (2 ^ (h * k)))
 
@@ -209,11 +189,7 @@ free_zeta k some few =
 
 -- ---- the whole word, when its head has been read
 below_zeta : (k h v : ℕ) → h ≤ 63 / k - 1 → 0 < 63 / k → v < 2 ^ (h * k + k) - 1 → v ≤ zeta_top k
-below_zeta k h v l q lv =
-    let m : (h + 1) * k ≤ 63 / k * k = mul-le (h + 1) k (63 / k) k (omega arith) (omega arith) in
-    let turn : k * (63 / k) ≡ 63 / k * k = mul_comm k (63 / k) in
-    let up : 2 ^ (h * k + k) ≤ 2 ^ (k * (63 / k)) = pow_mono (let s : h * k + k ≤ k * (63 / k) = omega arith in s) in
-    omega arith
+below_zeta k h v l q lv = grind (arith, mul_comm, pow_mono, mul-le)
 
 pub zeta_head_cut : (k : ℕ) → 1 ≤ k → k ≤ 31 → (z : List Bool) → Reads unary (63 / k - 1) z Cut → Reads (zeta k) (zeta_top k) z Cut
 zeta_head_cut k some few z c =
@@ -230,18 +206,16 @@ zeta_head_none k some few z none =
 
 pub zeta_cut : (k : ℕ) → 1 ≤ k → k ≤ 31 → (z z1 : List Bool) (h : ℕ) → h ≤ 63 / k - 1 → z ≡ unary h ++ z1 → IsCutAt k h z1 → Reads (zeta k) (zeta_top k) z Cut
 zeta_cut k some few z z1 h lh e c =
-    let q : 0 < 63 / k = quotient_some k some few in
     cut_tail (zeta k) unary (zeta_tail k) (zeta_head k) (zeta_top k) (63 / k - 1) (headed_zeta k some few) z z1 c.v
-    (below_zeta k h c.v lh q c.below)
+    (below_zeta k h c.v lh (quotient_some k some few) c.below)
     (e ∙ ap (λ p. unary p ++ z1) (sym c.index))
     (subst (λ p. ProperlyBegins z1 (shortened k p (c.v + 1))) (sym c.index) c.cut)
 
 pub zeta_value : (k : ℕ) → 1 ≤ k → k ≤ 31 → (z z1 z2 : List Bool) (h v : ℕ) → h ≤ 63 / k - 1 → z ≡ unary h ++ z1 → IsShortenedAt k h v z1 z2
     → Reads (zeta k) (zeta_top k) z (Value v)
 zeta_value k some few z z1 z2 h v lh e n =
-    let q : 0 < 63 / k = quotient_some k some few in
     value_tail (zeta k) unary (zeta_tail k) (zeta_head k) (zeta_top k) (63 / k - 1) (headed_zeta k some few) z z1 z2 v
-    (below_zeta k h v lh q n.below)
+    (below_zeta k h v lh (quotient_some k some few) n.below)
     (e ∙ ap (λ p. unary p ++ z1) (sym n.index))
     (n.bits ∙ ap (λ p. shortened k p (v + 1) ++ z2) (sym n.index))
 
@@ -272,15 +246,8 @@ low_small k h t some few l = let p : 2 ^ (h * k + k - 1) ≤ 2 ^ 62 = pow_mono (
 
 pub place_short : (k h t : ℕ) (p q : Position) → 1 ≤ k → h * k + k ≤ 63 → t < 2 ^ (h * k) → q ≡ moved p (h * k + k - 1)
     → q ≡ moved p (length (shortened k h (2 ^ (h * k) + t - 1 + 1)))
-place_short k h t p q some few l e =
-    let long : length (shortened k h (2 ^ (h * k) + t - 1 + 1)) ≡ h * k + k - 1 = ap length (short_form k h t some few l).2 ∙ length-low_bits (h * k + k - 1) t in
-    e ∙ ap (moved p) (sym long)
+place_short k h t p q some few l e = grind (arith, length-low_bits, short_form)
 
 pub place_long : (k h t b : ℕ) (p q r : Position) → 1 ≤ k → h * k + k ≤ 63 → t < 2 ^ (h * k + k - 1) → 2 ^ (h * k) ≤ t → b < 2
     → q ≡ moved p (h * k + k - 1) → r ≡ moved q 1 → r ≡ moved p (length (shortened k h (2 * t + b - 1 + 1)))
-place_long k h t b p q r some few l low lb e f =
-    let long : length (shortened k h (2 * t + b - 1 + 1)) ≡ h * k + k - 1 + 1 =
-    ap length (long_form k h t b some few l low lb).2 ∙ length-append (low_bits (h * k + k - 1) t) (low_bits 1 b)
-    ∙ (let a = length-low_bits (h * k + k - 1) t in let c = length-low_bits 1 b in let s : length (low_bits (h * k + k - 1) t) + length (low_bits 1 b) ≡ h * k + k - 1 + 1 = omega arith in s) in
-    let sum : p.at + (h * k + k - 1) + 1 ≡ p.at + length (shortened k h (2 * t + b - 1 + 1)) = omega arith in
-    f ∙ ap (λ x. moved x 1) e ∙ ap (λ a. let x : Position = record { bits = p.bits; at = a } in x) sum
+place_long k h t b p q r some few l low lb e f = grind (arith, length-low_bits, long_form)

@@ -5,5 +5,4 @@ use Rattle.wg_codes.proofs.delta.length.Goals as goal
 pub returns : goal.returns
 returns c =
     let d = length-delta c.args.v c.highest_one-index.result c.highest_one-index.ensures.index in
-    let g = c.length.ensures.length in
     omega arith

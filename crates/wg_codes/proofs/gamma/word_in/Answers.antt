@@ -1,6 +1,4 @@
 use Rattle.std.proofs.Common.{arith, refl}
-use Rattle.std.specs.Int.Count.{count_leading_zeros}
-use Rattle.std.proofs.lemmas.Nat.{pow_pos}
 use Rattle.wg_bits.proofs.Fronts.{front_agrees}
 use Rattle.wg_codes.proofs.Windows.{window_number, fast_found, fast_place}
 use Rattle.wg_codes.proofs.gamma.word_in.Goals as goal
@@ -8,7 +6,6 @@ use Rattle.wg_codes.proofs.gamma.word_in.Goals as goal
 pub overflow_sub-result-2 : goal.overflow_sub-result-2
 overflow_sub-result-2 c =
     let n = window_number c.args.window _ c.ranges.window.fits refl (omega arith) in
-    let p = pow_pos (count_leading_zeros 64 c.args.window) in
     omega arith
 
 pub returns : goal.returns

@@ -8,9 +8,7 @@ use Rattle.wg_codes.proofs.zeta.shortened.Goals as goal
 
 pub overflow_add-result : goal.overflow_add-result
 overflow_add-result c =
-    let fits = room c.args.k c.args.head c.requires.head in
-    let e = least_is c.args.k c.args.head c.requires.k.0 fits in
-    let s = least_small c.args.k c.args.head c.requires.k.0 fits in
+    let s = least_small c.args.k c.args.head c.requires.k.0 (room c.args.k c.args.head c.requires.head) in
     omega arith
 
 pub overflow_mul-result : goal.overflow_mul-result

@@ -38,16 +38,13 @@ summed b w k few most =
 
 pub overflow_add-number : goal.overflow_add-number
 overflow_add-number c =
-    let one = one_shl (64 - c.args.k) 64 (omega (arith, c.requires.0)) in
     let most : 2 ^ (64 - c.args.k) ≤ 2 ^ 63 = pow_mono (let s : 64 - c.args.k ≤ 63 = omega (arith, c.requires.0) in s) in
     omega arith
 
 -- what is taken less one
 pub overflow_sub-result-2 : goal.overflow_sub-result-2
 overflow_sub-result-2 c =
-    let head : ℕ = count_leading_zeros 64 c.args.window in
     let width : ℕ = count_leading_zeros 64 c.args.window * c.args.k + c.args.k in
-    let behind : ℕ = c.args.window * 2 ^ count_leading_zeros 64 c.args.window % 2 ^ 64 * 2 % 2 ^ 64 in
     let one : 1 * 2 ^ (64 - c.args.k) % 2 ^ 64 ≡ 2 ^ (64 - c.args.k) = one_shl (64 - c.args.k) 64 (omega (arith, c.requires.0)) in
     let least : 2 ^ (64 - width) ≤ 2 ^ (64 - c.args.k) = pow_mono (let s : 64 - width ≤ 64 - c.args.k = omega arith in s) in
     le-div 1 c.if-half-one.number.0 (2 ^ (64 - width)) (pow_pos (64 - width)) (elim c.if-half-one.branch [
@@ -57,7 +54,6 @@ overflow_sub-result-2 c =
 
 pub returns : goal.returns
 returns c =
-    let k : ℕ = c.args.k in
     let head : ℕ = count_leading_zeros 64 c.args.window in
     let width : ℕ = count_leading_zeros 64 c.args.window * c.args.k + c.args.k in
     let behind : ℕ = c.args.window * 2 ^ count_leading_zeros 64 c.args.window % 2 ^ 64 * 2 % 2 ^ 64 in
