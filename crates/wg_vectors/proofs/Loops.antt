@@ -1,5 +1,5 @@
 -- One turn of each loop that draws.
-use Rattle.std.proofs.Common.{◌≡◌, ℕ, zero, suc, ◌+◌, ◌-◌, ◌%◌, ◌<◌, ◌≤◌, List, [], ◌∷◌, ◌++◌, length, replicate, Result, Ok, Err, refl, sym, ap, ◌∙◌, arith}
+use Rattle.std.proofs.Common.{◌≡◌, ℕ, suc, ◌+◌, ◌-◌, ◌%◌, ◌<◌, ◌≤◌, List, [], ◌∷◌, ◌++◌, length, replicate, Result, Ok, Err, refl, ap, ◌∙◌, arith}
 use Rattle.std.specs.Prelude.{IfOk}
 use Rattle.std.proofs.lemmas.List.{append-nil}
 use Rattle.wg_graph.specs.Digraph.{Digraph}
@@ -17,20 +17,11 @@ lists_next n x s lists next d lt d_is next_is = let e : n - x ≡ suc (n - (x + 
 
 pub lists_all : (n x s seed : ℕ) (lists : List (List ℕ)) (g : Digraph) → n ≤ x → length lists ≡ x → lists_on n (n - x) lists s ≡ lists_on n n [] seed → g.nodes ≡ n → g.lists ≡ padded n lists → g ≡ generated seed n
 unfolding generated
-lists_all n x s seed lists g past count rest nodes_is lists_is =
-    let none : n - x ≡ zero = omega arith in
-    let no_more : n - length lists ≡ zero = omega arith in
-    let here : lists_on n (n - x) lists s ≡ lists = ap (λ (k : ℕ). lists_on n k lists s) none in
-    let full : padded n lists ≡ lists = ap (λ (k : ℕ). lists ++ replicate k []) no_more ∙ append-nil lists in
-    let whole : g.lists ≡ lists_on n n [] seed = lists_is ∙ full ∙ sym here ∙ rest in
-    let of_nodes : ℕ → Digraph = λ m. record { nodes = m; lists = g.lists } in
-    let of_lists : List (List ℕ) → Digraph = λ l. record { nodes = n; lists = l } in
-    ap of_nodes nodes_is ∙ ap of_lists whole
+lists_all n x s seed lists g past count rest nodes_is lists_is = grind (arith, replicate, append-nil)
 
 pub is_drafted : (n pages s : ℕ) (lists : List (List ℕ)) (first second third : Drafted) → pages ≡ n → first ≡ begun lists s → second ≡ scattered pages first → third ≡ extended pages second → third ≡ drafted n lists s
 unfolding drafted
-is_drafted n pages s lists first second third same first_is second_is third_is =
-    third_is ∙ ap (extended pages) (second_is ∙ ap (scattered pages) first_is) ∙ ap (λ (m : ℕ). extended m (scattered m (begun lists s))) same
+is_drafted n pages s lists first second third same first_is second_is third_is = grind arith
 
 pub finished : {E : Type 0} (r : Result Digraph E) (n x s seed : ℕ) (b : Digraph) → n ≤ x → length b.lists ≡ x → b.nodes ≡ n → lists_on n (n - x) b.lists s ≡ lists_on n n [] seed →
     IfOk r (λ g. g.nodes ≡ b.nodes) → IfOk r (λ g. g.lists ≡ padded b.nodes b.lists) → IfOk r (λ g. g ≡ generated seed n)

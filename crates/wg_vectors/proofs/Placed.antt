@@ -46,8 +46,7 @@ there n y [] i up lt is = absurd (omega arith)
 there n y (x ∷ xs) zero up lt is = at_head y x xs (sym is)
 there n y (x ∷ xs) (suc i) up lt is =
     let h = ascends_at (suc x) xs i up.1 (omega arith) in
-    let above : x < y = omega (arith, is) in
-    past_head y x xs above ∙ ap (λ (l : List ℕ). x ∷ l) (there (suc x) y xs i up.1 (omega arith) is)
+    past_head y x xs (omega (arith, is)) ∙ ap (λ (l : List ℕ). x ∷ l) (there (suc x) y xs i up.1 (omega arith) is)
 
 -- ---- where a search finds its place
 

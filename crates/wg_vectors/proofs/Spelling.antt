@@ -1,7 +1,6 @@
 -- Bits that are spelled as a text, one by one.
-use Rattle.std.proofs.Common.{◌≡◌, ◌≢◌, ne_eqb, ℕ, ◌+◌, ◌-◌, ◌*◌, ◌/◌, ◌%◌, ◌^◌, ◌<◌, ◌≤◌, ◌==◌, Bool, true, false, cond, List, [], ◌∷◌, ◌++◌, length, take, get_or, refl, sym, ap, subst, ◌∙◌, arith, append_assoc}
+use Rattle.std.proofs.Common.{◌≡◌, ◌≢◌, ℕ, ◌+◌, ◌-◌, ◌*◌, ◌/◌, ◌%◌, ◌^◌, ◌<◌, ◌≤◌, ◌==◌, Bool, true, false, cond, List, [], ◌∷◌, ◌++◌, length, take, get_or, refl, sym, ap, ◌∙◌, arith, append_assoc}
 use Rattle.std.proofs.Math.ListN.{replicate}
-use Rattle.std.proofs.Math.Nat.{pow-suc}
 use Rattle.std.proofs.lemmas.Nat.{pow-add, pow_pos, shr_high}
 use Rattle.std.proofs.lemmas.List.{append-nil, take_more, take_all}
 use mir.Val.{bool_byte}
@@ -27,23 +26,11 @@ letter_more xs i lt = ap bits_in (take_more xs i 0 lt) ∙ bits_in-append (take 
 pub blank_more : (xs : List ℕ) (i : ℕ) → i < length xs → get_or xs i 0 ≡ 32 → bits_in (take (i + 1) xs) ≡ bits_in (take i xs)
 blank_more xs i lt blank = letter_more xs i lt ∙ ap (λ (c : ℕ). bits_in (take i xs) ++ bits_in (c ∷ [])) blank ∙ append-nil (bits_in (take i xs))
 
-pub bit_more : (xs : List ℕ) (i : ℕ) → i < length xs → get_or xs i 0 ≢ 32 → bits_in (take (i + 1) xs) ≡ bits_in (take i xs) ++ (get_or xs i 0 == 49) ∷ []
-bit_more xs i lt letter =
-    let c : ℕ = get_or xs i 0 in
-    letter_more xs i lt ∙ ap (λ (b : Bool). bits_in (take i xs) ++ cond b [] ((c == 49) ∷ [])) (ne_eqb c 32 letter)
-
 -- ---- bits, one after the other
 
 pub with_bit : (fill part : ℕ) (bit : Bool) → low_bits (fill + 1) (2 * part + bool_byte bit) ≡ low_bits fill part ++ bit ∷ []
 unfolding low_bits
-with_bit fill part true =
-    let half : (2 * part + 1) / 2 ≡ part = omega arith in
-    let odd : (2 * part + 1) / 1 % 2 ≡ 1 = omega arith in
-    low_bits-add fill 1 (2 * part + 1) ∙ rw (half, odd) refl
-with_bit fill part false =
-    let half : (2 * part + 0) / 2 ≡ part = omega arith in
-    let even : (2 * part + 0) / 1 % 2 ≡ 0 = omega arith in
-    low_bits-add fill 1 (2 * part + 0) ∙ rw (half, even) refl
+with_bit fill part bit = grind (arith, low_bits-add)
 
 pub part_below : (fill part bit : ℕ) → part < 2 ^ fill → bit < 2 → 2 * part + bit < 2 ^ (fill + 1)
 part_below fill part bit lt one = omega (arith, pow-add 2 fill 1, lt, one)
@@ -74,7 +61,7 @@ part_filled fill part few lt =
 
 pub letter_taken : (xs bytes more : List ℕ) (i fill part f p : ℕ) → i < length xs → get_or xs i 0 ≢ 32 → bits_of bytes ++ low_bits fill part ≡ bits_in (take i xs)
     → bits_of more ++ low_bits f p ≡ bits_of bytes ++ low_bits fill part ++ (get_or xs i 0 == 49) ∷ [] → bits_of more ++ low_bits f p ≡ bits_in (take (i + 1) xs)
-letter_taken xs bytes more i fill part f p lt letter so_far is = is ∙ ap (λ (l : List Bool). l ++ (get_or xs i 0 == 49) ∷ []) so_far ∙ sym (bit_more xs i lt letter)
+letter_taken xs bytes more i fill part f p lt letter so_far is = grind (arith, letter_more)
 
 -- the bits of all letters
 all_letters : (xs text : List ℕ) (i : ℕ) (bits : List Bool) → length xs ≤ i → xs ≡ text → bits ≡ bits_in (take i xs) → bits ≡ bits_in text
@@ -83,11 +70,7 @@ all_letters xs text i bits end is so_far = so_far ∙ ap bits_in (take_all i xs 
 pub end_whole : (xs text bytes : List ℕ) (i fill part : ℕ) → length xs ≤ i → xs ≡ text → fill ≡ 0 → bits_of bytes ++ low_bits fill part ≡ bits_in (take i xs)
     → (k : ℕ) × (k < 8) × (bits_of bytes ≡ bits_in text ++ replicate k false)
 unfolding low_bits
-end_whole xs text bytes i fill part end is none so_far = (
-  0,
-  omega arith,
-  sym (append-nil (bits_of bytes)) ∙ ap (λ (n : ℕ). bits_of bytes ++ low_bits n part) (sym none) ∙ all_letters xs text i (bits_of bytes ++ low_bits fill part) end is so_far ∙ sym (append-nil (bits_in text)),
-)
+end_whole xs text bytes i fill part end is none so_far = grind (arith, append-nil, all_letters)
 
 pub end_filled : (xs text bytes all : List ℕ) (i fill part : ℕ) → length xs ≤ i → xs ≡ text → 0 < fill → fill < 8 → part < 2 ^ fill → bits_of bytes ++ low_bits fill part ≡ bits_in (take i xs)
     → all ≡ bytes ++ part * 2 ^ (8 - fill) % 2 ^ 8 ∷ [] → (k : ℕ) × (k < 8) × (bits_of all ≡ bits_in text ++ replicate k false)

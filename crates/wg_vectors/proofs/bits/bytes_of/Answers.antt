@@ -1,4 +1,4 @@
-use Rattle.std.proofs.Common.{◌≡◌, ◌^◌, ◌<◌, ◌∙◌, ◌++◌, ℕ, List, sym, subst, ap, arith}
+use Rattle.std.proofs.Common.{◌∙◌, ◌++◌, ℕ, List, sym, ap, arith}
 use Rattle.wg_bits.specs.Bits.{bits_of, low_bits}
 use Rattle.wg_bits.proofs.Writes.{empty_writer}
 use Rattle.wg_vectors.proofs.Spelling.{blank_more, letter_taken, end_whole, end_filled}
