@@ -1,7 +1,6 @@
 -- What is made when runs and arcs were counted: the counts, and what stands for the pages that link to each page.
-use Rattle.std.proofs.Common.{◌≡◌, ℕ, ◌<◌, ◌≤◌, All, List, [], ◌∷◌, length, map, get_or, slice_range, replicate, refl, sym, ap, subst, ◌∙◌, arith}
+use Rattle.std.proofs.Common.{◌≡◌, ℕ, ◌<◌, ◌≤◌, List, [], ◌∷◌, length, map, get_or, slice_range, refl, sym, ap, subst, ◌∙◌, arith}
 use Rattle.std.specs.List.{range_with_len}
-use Rattle.std.proofs.lemmas.List.Elements.{All-replicate}
 use Rattle.std.proofs.lemmas.List.FromFn.{fill_by_all, length-map-range_with_len, get_or-map-range_with_len}
 use Rattle.wg_graph.specs.Ascending.{Ascends}
 use Rattle.wg_graph.specs.Digraph.{Digraph}
@@ -15,17 +14,6 @@ use Rattle.wg_transpose.proofs.Reversed.{gives_back}
 use Rattle.wg_transpose.proofs.Totals.{start_of_all}
 use Rattle.wg_transpose.proofs.Whole.{begins_at, ends_within, list_is}
 use Rattle.wg_transpose.proofs.RunWhole.{few_in_all}
-
--- before a page is counted, each has the same number
-pub all_are : (x n : ℕ) (now items : List ℕ) → now ≡ items → items ≡ replicate n x → All (λ k. k ≡ x) now
-all_are x n now items lent is = rw (lent, is) (All-replicate (λ (k : ℕ). k ≡ x) n x refl)
-
--- the counts, in the arrays that hold them
-pub counts_held : (g : Digraph) (counts links degrees counts' links' degrees' : List ℕ) (runs arcs : ℕ)
-    → counts' ≡ counts → links' ≡ links → degrees' ≡ degrees
-    → IsCountOf g (record { counts = counts; links = links; degrees = degrees; runs = runs; arcs = arcs })
-    → IsCountOf g (record { counts = counts'; links = links'; degrees = degrees'; runs = runs; arcs = arcs })
-counts_held g counts links degrees counts' links' degrees' runs arcs c l d h = rw (c, l, d) h
 
 -- they are those of runs, and of pages one by one
 module _ (g : Digraph) (c : Counted) (reach : List ℕ) (h : IsCountOf g c) (places : length reach ≡ length c.counts) where

@@ -1,31 +1,12 @@
 -- The step to the next range.
-use Rattle.std.proofs.Common.{◌≡◌, ℕ, ◌+◌, ◌-◌, ◌<◌, ◌≤◌, List, [], length, replicate, take, drop, get_or, slice_range, refl, sym, ap, subst, ◌∙◌, arith, length-drop}
+use Rattle.std.proofs.Common.{◌≡◌, ℕ, ◌+◌, ◌-◌, ◌<◌, ◌≤◌, List, length, take, drop, slice_range, refl, sym, ap, subst, ◌∙◌, arith}
 use Rattle.std.specs.Prelude.{sum}
-use Rattle.std.proofs.lemmas.List.{length-replicate, get_or-replicate}
-use Rattle.std.proofs.lemmas.List.Edits.{length-between}
 use Rattle.std.proofs.lemmas.Slice.{between_to_end}
 use borrow.Rule.Slice.PartMut.{put_mid}
 use Rattle.wg_params.specs.declared.limits.TheConstants.{MOST_ARCS}
 use Rattle.wg_transpose.specs.SoFar.{onward, start, AreCounts, ArePrefixes}
 use Rattle.wg_transpose.specs.Transposing.{Ranging, IsRangeOf, numbers_between}
 use Rattle.wg_transpose.proofs.Held.{length_written, sum_behind, range_within, range_size, range_arcs, range_few, range_counted, range_held}
-
-pub le_at : (a b long : ℕ) → a ≤ b → long ≡ b → a ≤ long
-le_at a b long le is = omega (arith, le, is)
-
-pub le_more : (a b : ℕ) → a ≤ a + b
-le_more a b = omega arith
-
-pub le_both : (a b : ℕ) → a ≤ b → (a ≤ a) × (a ≤ b)
-le_both a b le = (omega arith, le)
-
--- before any arc is counted
-pub none_counted : (pages : ℕ) (counts : List ℕ) → counts ≡ replicate pages 0
-    → (k d : ℕ) → k < length counts → get_or counts k d ≡ 0
-none_counted pages counts is k d lt =
-    let zero : ℕ = 0 in
-    let low : k < pages = omega (arith, lt, ap length is, length-replicate pages zero) in
-    ap (λ (l : List ℕ). get_or l k d) is ∙ get_or-replicate pages k zero d low
 
 -- `now` is the range before, `seen` are the ends that are read
 module _ {lists : ℕ → List ℕ} {r now : Ranging} {seen : List ℕ} (is : r ≡ now) (held : IsRangeOf lists now) (same : seen ≡ r.ends) where
@@ -42,27 +23,6 @@ module _ {lists : ℕ → List ℕ} {r now : Ranging} {seen : List ℕ} (is : r 
   pub next_sum : sum behind ≤ MOST_ARCS
   next_sum = subst (λ (l : List ℕ). sum l ≤ MOST_ARCS) (sym behind_is) (sum_behind lists r held_now)
 
-  -- no step: an empty range before the same list
-  pub none_next : (all : List ℕ) → all ≡ [] → IsRangeOf lists (record { from = r.to; to = r.to; ends = r.ends; all = all })
-  none_next all none =
-      let none_is : 0 ≡ r.to - r.to = omega arith in
-      record {
-        few = held_now.few;
-        counted = refl;
-        ordered = omega arith;
-        within = held_now.within;
-        lists = record {
-          pages = length-between r.ends r.to r.to held_now.within;
-          room = ap length none ∙ ap (start (onward r.to lists)) none_is;
-          reached = λ v lt. absurd (omega arith);
-          members = λ v lt. absurd (omega arith);
-        };
-        counts = held_now.counts;
-      }
-
-  pub none_within : r.to ≤ length now.ends
-  none_within = subst (λ (s : Ranging). r.to ≤ length s.ends) is held_now.within
-
   -- a step over p lists
   module _ {p : ℕ} (within : p ≤ length behind) where
     fits : p ≤ length (drop r.to r.ends)
@@ -70,26 +30,6 @@ module _ {lists : ℕ → List ℕ} {r now : Ranging} {seen : List ℕ} (is : r 
 
     numbers_are : (k : ℕ) → k ≤ p → sum (take k behind) ≡ start (onward r.to lists) k
     numbers_are k le = ap (λ (l : List ℕ). sum (take k l)) behind_is ∙ range_arcs lists r held_now p fits k le
-
-    pub next_within : r.to + p ≤ length now.ends
-    next_within = subst (λ (s : Ranging). r.to + p ≤ length s.ends) is (range_within lists r held_now p fits)
-
-    pub next_room : (long : ℕ) → length seen ≡ long → (r.to ≤ r.to + p) × (r.to + p ≤ long)
-    next_room long size = (omega arith, omega (arith, range_within lists r held_now p fits, ap length same, size))
-
-    pub next_some : (0 < length behind → 0 < p) → now.to < length now.ends → now.to < r.to + p
-    next_some some =
-        subst (λ (s : Ranging). s.to < length s.ends → s.to < r.to + p) is
-        (λ lt. let one = some (omega (arith, lt, ap length behind_is, length-drop r.to r.ends)) in omega (arith, one))
-
-    pub next_enough : (room total : ℕ) → total ≡ sum (take p behind) → (p < length behind → room ≤ total)
-        → r.to + p < length now.ends → room ≤ numbers_between lists now.to (r.to + p)
-    next_enough room total sums enough =
-        subst (λ (s : Ranging). r.to + p < length s.ends → room ≤ numbers_between lists s.to (r.to + p)) is
-        (λ lt.
-        let k : r.to + p - r.to ≡ p = omega arith in
-        let full = enough (omega (arith, lt, ap length behind_is, length-drop r.to r.ends)) in
-        omega (arith, full, sums, numbers_are p (omega arith), ap (start (onward r.to lists)) k))
 
     pub next_least : (room : ℕ) → ((k : ℕ) → 0 < k → k < p → sum (take k behind) < room)
         → (list : ℕ) → now.to < list → list < r.to + p → numbers_between lists now.to list < room
@@ -128,9 +68,6 @@ module _ {lists : ℕ → List ℕ} {r now : Ranging} {seen : List ℕ} (is : r 
         next_length =
             length_written r.to (r.to + p - r.to) ends new
             (omega (arith, range_within lists r held_now p fits, ap length same_ends)) (omega (arith, size, near_size))
-
-        pub next_count : (ends_now : List ℕ) → ends_now ≡ put_mid r.to (r.to + p - r.to) ends new → length ends_now ≡ length now.ends
-        next_count ends_now by = ap length by ∙ next_length ∙ ap length same_ends ∙ ap (λ (s : Ranging). length s.ends) is
 
         pub next_held : (placed ends_now all_now : List ℕ) → ends_now ≡ put_mid r.to (r.to + p - r.to) ends new → all_now ≡ placed
             → ArePrefixes (length near) (onward r.to lists) (onward r.to lists) new placed

@@ -5,7 +5,7 @@ use Rattle.std.proofs.lemmas.List.{take_all}
 use Rattle.wg_graph.specs.Digraph.{Digraph}
 use Rattle.wg_graph.specs.Arcs.{has_arc}
 use Rattle.wg_transpose.specs.SoFar.{predecessors_below, start, AreFilled, IsListOf, OneMore}
-use Rattle.wg_transpose.proofs.Seen.{with_page, none_seen, all_seen, seen_le, where_few}
+use Rattle.wg_transpose.proofs.Seen.{with_page, all_seen, seen_le, where_few}
 use Rattle.wg_transpose.proofs.Steps.{target_below}
 use Rattle.wg_transpose.specs.declared.run.PageRun.{PageRun}
 use Rattle.wg_transpose.specs.declared.run.TheConstants.{MOST_PAGES_IN_RUNS}
@@ -167,9 +167,6 @@ module _ (n : ℕ) (whole b c : ℕ → List ℕ) (v u : ℕ) (next : IsNext run
     inside : l < length (runs_of c v)
     inside = omega (arith, as_many, some)
 
-    pub end_behind : 0 < end
-    end_behind = omega (arith, h.filled.reached v next.list, some)
-
     pub longer_within : end - 1 < length runs
     longer_within = place_within no_run n (runs_of whole) (runs_of b) (runs_of c) v next.list next.fits (others_stay b c v u next.more) l x inside here_longer kept_longer runs (end - 1) h.filled.room is_last
 
@@ -205,10 +202,6 @@ module _ (g : Digraph) (k j : ℕ) (list : List ℕ) (is : IsListOf g k list) wh
   pub runs_done : length list ≤ j → (v : ℕ) → runs_with v ≡ runs_below g (k + 1) v
   runs_done past v = ap runs_in (ap (λ (seen : List ℕ). with_page g k seen v) (take_all j list past ∙ is.is) ∙ sym (all_seen g k v))
 
--- before the first arc
-pub runs_yet : (g : Digraph) (k v : ℕ) → runs_in (with_page g k [] v) ≡ runs_below g k v
-runs_yet g k v = ap runs_in (none_seen g k v)
-
 -- lists that are equal page by page have the same counts and ends
 pub same_counted : (n : ℕ) (b c : ℕ → List PageRun) (counts reach : List ℕ) → ((v : ℕ) → b v ≡ c v) → AreCounted n b counts reach → AreCounted n c counts reach
 same_counted n b c counts reach same h = subst (λ (f : ℕ → List PageRun). AreCounted n f counts reach) (λ i v. same v i) h
@@ -220,9 +213,9 @@ module _ (k j : ℕ) (list : List ℕ) (lt : j < length list) where
 
   pub target_counted : (old_counts old_reach counts reach : List ℕ) → (g : Digraph) × IsListOf g k list × AreCounted g.nodes (runs_below g k) old_counts old_reach
       → ((g : Digraph) → IsListOf g k list → AreCounted g.nodes (runs_below g k) old_counts old_reach → AreCounted g.nodes (runs_of (with_page g k (take j list))) counts reach)
-      → (t < length counts) × (t < length reach) × (get_or counts t 0 ≤ k + 1) × (k < length counts)
+      → (get_or counts t 0 ≤ k + 1) × (k < length counts)
   target_counted old_counts old_reach counts reach r inv =
       let h = inv r.0 r.1 r.2 in
       let below = target_below r.0 k j list r.1 lt in
       let page = r.1.page in
-      (omega (arith, below, h.counted.pages), omega (arith, below, h.places), omega (arith, h.counted.each t below, runs_few r.0 k j list r.1 t), omega (arith, page, h.counted.pages))
+      (omega (arith, h.counted.each t below, runs_few r.0 k j list r.1 t), omega (arith, page, h.counted.pages))

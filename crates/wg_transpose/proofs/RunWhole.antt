@@ -1,5 +1,5 @@
 -- How many runs and arcs there are, and the outdegrees.
-use Rattle.std.proofs.Common.{◌≡◌, ℕ, ◌+◌, ◌<◌, ◌≤◌, All, List, [], length, take, get_or, set, ap, ◌∙◌, arith, inl, inr, get_or-set_same, get_or-set_other}
+use Rattle.std.proofs.Common.{◌≡◌, ℕ, ◌+◌, ◌<◌, ◌≤◌, List, [], length, take, get_or, set, ap, ◌∙◌, arith, inl, inr, get_or-set_same, get_or-set_other}
 use Rattle.std.specs.List.{sum_by}
 use Rattle.std.proofs.lemmas.Bool.{cases_eq}
 use Rattle.std.proofs.lemmas.List.Sums.{sum_by_more}
@@ -10,9 +10,7 @@ use Rattle.wg_transpose.specs.SoFar.{start}
 use Rattle.wg_transpose.proofs.Reversed.{list_is}
 use Rattle.wg_transpose.proofs.Seen.{where_few}
 use Rattle.wg_transpose.proofs.Totals.{start_few, start_of_all}
-use Rattle.wg_transpose.specs.declared.run.TheConstants.{MOST_PAGES_IN_RUNS}
 use Rattle.wg_transpose.specs.Runs.{runs_to}
-use Rattle.wg_transpose.specs.Held.{runs_below, AreCounted}
 use Rattle.wg_transpose.specs.Grown.{few_runs}
 
 -- ---- how many runs there are
@@ -36,12 +34,3 @@ module _ (g : Digraph) (ok : IsGraph g) (page : ℕ) (lt : page < g.nodes) (list
 
   pub arcs_more : sum_by (λ s. length s) (take page g.lists) + length list ≡ sum_by (λ s. length s) (take (page + 1) g.lists)
   arcs_more = omega (arith, sum_by_more (λ (s : List ℕ). length s) g.lists page [] (omega (arith, ok.counted)), ap length is)
-
--- before the first page is counted
-pub none_counted : (g : Digraph) (counts reach : List ℕ) → length counts ≡ g.nodes → length reach ≡ g.nodes → All (λ count. count ≡ 0) counts → All (λ place. place ≡ MOST_PAGES_IN_RUNS) reach
-    → AreCounted g.nodes (runs_below g 0) counts reach
-none_counted g counts reach pages places none nowhere = record {
-  counted = record { pages = pages; each = λ v lt. none v 0 (omega arith) };
-  places = places;
-  reached = λ v lt. nowhere v 0 (omega arith);
-}

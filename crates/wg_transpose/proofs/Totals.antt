@@ -1,11 +1,10 @@
 -- As many arcs lead to the pages as leave them.
-use Rattle.std.proofs.Common.{Fits, w64, ◌≡◌, ℕ, zero, suc, ◌+◌, ◌<◌, ◌≤◌, Bool, cond, List, [], ◌∷◌, length, take, get_or, set, map, true, false, refl, sym, ap, subst, ◌∙◌, arith, inl, inr, length-append}
+use Rattle.std.proofs.Common.{◌≡◌, ℕ, zero, suc, ◌+◌, ◌≤◌, Bool, cond, List, [], ◌∷◌, length, take, map, true, false, refl, sym, ap, subst, ◌∙◌, arith, inl, inr, length-append}
 use Rattle.std.specs.List.{sum_by, range_with_len}
 use Rattle.std.specs.Prelude.{sum}
 use Rattle.std.proofs.lemmas.Bool.{cases_lt}
-use Rattle.std.proofs.lemmas.List.{take_all, get_or-set_same, get_or-set_other}
-use Rattle.std.proofs.lemmas.List.Sums.{sum_by_more, sum_by_more_le}
-use Rattle.wg_params.specs.declared.limits.TheConstants.{MOST_ARCS}
+use Rattle.std.proofs.lemmas.List.{take_all}
+use Rattle.std.proofs.lemmas.List.Sums.{sum_by_more}
 use Rattle.std.proofs.lemmas.List.FromFn.{sum_by-map-range_with_len_more}
 use Rattle.wg_graph.specs.Numbers.{numbers_where}
 use Rattle.wg_graph.specs.Digraph.{Digraph, IsGraph, successors, arc_count}
@@ -86,81 +85,3 @@ sum_is_start n lists counts h (suc v) le =
 
 pub sum_is_all : {X : Type 0} (n : ℕ) (lists : ℕ → List X) (counts : List ℕ) → AreCounts n lists counts → sum counts ≡ start lists n
 sum_is_all n lists counts h = ap sum (sym (take_all n counts (omega (arith, h.pages)))) ∙ sum_is_start n lists counts h n (omega arith)
-
--- ---- a sum of counts up to a page
-
-pub all_within : (a : ℕ) → a ≤ a
-all_within a = omega arith
-
-pub is_within : (a n : ℕ) → a < n → a + 1 ≤ n
-is_within a n lt = omega (arith, lt)
-
-pub is_some : (a : ℕ) → 0 < a + 1
-is_some a = omega arith
-
-pub no_more : (room arcs n : ℕ) → n < n → room ≤ arcs
-no_more room arcs n lt = absurd (omega (arith, lt))
-
-pub below_next : (k n : ℕ) → k < n + 1 → k ≤ n
-below_next k n lt = omega (arith, lt)
-
-module _ (counts : List ℕ) (room page arcs : ℕ) where
-  pub least_none : (k : ℕ) → 0 < k → k ≤ 0 → sum (take k counts) < room
-  least_none k some none = absurd (omega (arith, some, none))
-
-  module _ (total : arcs ≡ sum (take page counts)) (least : (k : ℕ) → 0 < k → k ≤ page → sum (take k counts) < room) where
-    pub sum_at_end : page ≤ length counts → length counts ≤ page → arcs ≡ sum (take (length counts) counts)
-    sum_at_end le past = let e : page ≡ length counts = omega (arith, le, past) in total ∙ ap (λ (k : ℕ). sum (take k counts)) e
-
-    pub least_all : length counts ≤ page → (k : ℕ) → 0 < k → k < length counts → sum (take k counts) < room
-    least_all past k some lt = least k some (omega (arith, past, lt))
-
-    module _ (lt : page < length counts) where
-      pub sum_within : sum counts ≤ MOST_ARCS → Fits w64 (arcs + get_or counts page 0)
-      sum_within few = omega (arith, few, total, sum_by_more_le (λ (x : ℕ). x) counts page 0 lt)
-
-      pub sum_next : arcs + get_or counts page 0 ≡ sum (take (page + 1) counts)
-      sum_next = omega (arith, total, sum_by_more (λ (x : ℕ). x) counts page 0 lt)
-
-      pub least_next : arcs + get_or counts page 0 < room → (k : ℕ) → 0 < k → k ≤ page + 1 → sum (take k counts) < room
-      least_next few k some le =
-          elim (cases_lt page k) [
-            | inl last ↦
-                let e : page + 1 ≡ k = omega (arith, last, le) in
-                subst (λ (j : ℕ). sum (take j counts) < room) e (omega (arith, few, sum_next))
-            | inr before ↦ least k some before
-          ]
-
--- ---- the sums before each count, put in place of it: of these counts, those up to this one are done
-
-pub none_done : (counts : List ℕ) (v : ℕ) → v < 0 → get_or counts v 0 ≡ sum (take v counts)
-none_done counts v lt = absurd (omega (arith, lt))
-
-module _ (counts items : List ℕ) (at begin : ℕ) (long : length items ≡ length counts) where
-  pub at_item : at < length counts → at < length items
-  at_item lt = omega (arith, lt, long)
-
-  pub all_done : ((v : ℕ) → v < at → get_or items v 0 ≡ sum (take v counts)) → length counts ≤ at
-      → (v : ℕ) → v < length counts → get_or items v 0 ≡ sum (take v counts)
-  all_done done past v lt = done v (omega (arith, past, lt))
-
-  module _ (total : begin ≡ sum (take at counts)) (left : (v : ℕ) → at ≤ v → get_or items v 0 ≡ get_or counts v 0) (lt : at < length counts) where
-    pub begin_fits : sum counts ≤ MOST_ARCS → Fits w64 (begin + get_or items at 0)
-    begin_fits few = omega (arith, few, total, left at (omega arith), sum_by_more_le (λ (x : ℕ). x) counts at 0 lt)
-
-    pub begin_next : begin + get_or items at 0 ≡ sum (take (at + 1) counts)
-    begin_next = omega (arith, total, left at (omega arith), sum_by_more (λ (x : ℕ). x) counts at 0 lt)
-
-    pub done_next : ((v : ℕ) → v < at → get_or items v 0 ≡ sum (take v counts))
-        → (v : ℕ) → v < at + 1 → get_or (set items at begin) v 0 ≡ sum (take v counts)
-    done_next done v low =
-        elim (cases_lt v at) [
-          | inl before ↦ get_or-set_other items at v begin 0 (λ e. omega (arith, e, before)) ∙ done v before
-          | inr behind ↦
-              let e : at ≡ v = omega (arith, low, behind) in
-              subst (λ (j : ℕ). get_or (set items at begin) j 0 ≡ sum (take j counts)) e
-              (get_or-set_same items at begin 0 (at_item lt) ∙ total)
-        ]
-
-    pub left_next : (v : ℕ) → at + 1 ≤ v → get_or (set items at begin) v 0 ≡ get_or counts v 0
-    left_next v past = get_or-set_other items at v begin 0 (λ e. omega (arith, e, past)) ∙ left v (omega (arith, past))

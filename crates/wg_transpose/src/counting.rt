@@ -11,6 +11,7 @@ ghost use Rattle.wg_transpose.specs.SoFar.{AreCounts};
 use wg_graph::Lists;
 
 /// Counts one arc more to each page of a list, which is that of one page.
+#[tactic(auto, using(crate::proofs::Seen::member_below, crate::proofs::Steps::count_step))]
 pub fn count_arcs(list: &[u64], counts: &mut [u64])
     requires ascends { Ascends 0 list.now }
     requires below { Below (length counts.old) list.now }

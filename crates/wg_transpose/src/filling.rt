@@ -48,6 +48,7 @@ fn place<T: InArc, L: Lists>(lists: &mut L, ends: &mut [u64], reach: &mut [u32],
 
 // Fills in what stands for the pages that link to each page, one page after the other, and its ends, if it was counted
 // how much that is.
+#[tactic(auto, using(crate::proofs::Totals::sum_is_all))]
 pub(crate) fn fill<T: InArc, L: Lists>(
     lists: &mut L,
     ends: &mut [u64],

@@ -112,6 +112,7 @@ fn span(ends: &[u64], all: &[u64], from: u64, list: u64) -> (usize, usize)
 }
 
 // Makes the lists from list `from` on, one after the other, and their ends, if it was counted how long they are.
+#[tactic(auto, using(crate::proofs::Totals::sum_is_all))]
 pub(crate) fn fill<P: Placing>(pass: &mut P, from: u64, ends: &mut [u64], all: &mut [u64])
     requires counted { AreCounts (length ends.old) (onward from (P.lists pass.old)) ends.old }
     requires room { length all.old ≡ start (onward from (P.lists pass.old)) (length ends.old) }

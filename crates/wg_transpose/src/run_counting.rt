@@ -14,6 +14,7 @@ use wg_graph::Lists;
 
 // Counts a run more to each page of the list to which page `page` begins one, and notes that its last run ends behind
 // page `page` now.
+#[tactic(auto, using(crate::proofs::Steps::target_below))]
 fn count_runs(page: u32, list: &[u64], counts: &mut [u64], reach: &mut [u32])
     requires few { length counts.old ≤ MOST_PAGES_IN_RUNS }
     requires counted { (g : Digraph) × IsListOf g page list.now
@@ -32,6 +33,7 @@ fn count_runs(page: u32, list: &[u64], counts: &mut [u64], reach: &mut [u32])
 }
 
 // Counts all runs and arcs, each at the page that it leads to, and notes the outdegrees. Gives how many arcs there are.
+#[tactic(auto, using(crate::proofs::RunWhole::degree_few))]
 fn count_lists<L: Lists>(
     lists: &mut L,
     counts: &mut [u64],
@@ -82,6 +84,7 @@ fn total(counts: &[u64]) -> u64
 }
 
 // Counts all runs and arcs, as [`count_lists`] does, and answers how many there are: runs, and arcs.
+#[tactic(auto, using(crate::proofs::Totals::sum_is_all, crate::proofs::RunWhole::few_in_all))]
 pub(crate) fn count<L: Lists>(
     lists: &mut L,
     counts: &mut [u64],

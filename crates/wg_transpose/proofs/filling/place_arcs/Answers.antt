@@ -1,13 +1,8 @@
 use Rattle.std.proofs.Common.{◌+◌, take, arith}
 use Rattle.wg_transpose.specs.Transposed.{predecessors}
 use Rattle.wg_transpose.proofs.Seen.{with_page}
-use Rattle.wg_transpose.proofs.Begun.{next_arc, before_first, behind_last}
+use Rattle.wg_transpose.proofs.Begun.{next_arc, behind_last}
 use Rattle.wg_transpose.proofs.filling.place_arcs.Goals as goal
-
-pub loop-target-init : goal.loop-target-init
-loop-target-init a c = λ g is h.
-    let t = a.T.InArc in
-    before_first t.items t.mark t.none g c.args.page c.args.ends.now c.args.reach.now c.args.all.now h
 
 pub put-requires : goal.put-requires
 put-requires a c =

@@ -2,11 +2,8 @@ use Rattle.std.proofs.Common.{◌+◌, take, get_or, arith}
 use Rattle.wg_transpose.specs.Transposed.{predecessors}
 use Rattle.wg_transpose.specs.Listed.{more_pages}
 use Rattle.wg_transpose.proofs.Seen.{with_page}
-use Rattle.wg_transpose.proofs.Steps.{place_below, place_step, page_more, page_fits, place_end, none_yet}
+use Rattle.wg_transpose.proofs.Steps.{place_below, place_step, page_more, page_fits, place_end}
 use Rattle.wg_transpose.proofs.placing.place_arcs.Goals as goal
-
-pub loop-target-init : goal.loop-target-init
-loop-target-init c = λ g n is h. none_yet g c.args.from n c.args.page c.args.ends.now c.args.all.now h
 
 pub put_in_range-requires : goal.put_in_range-requires
 put_in_range-requires c = record {

@@ -1,14 +1,7 @@
-use Rattle.std.proofs.Common.{ℕ, [], length, subst, sym, arith}
+use Rattle.std.proofs.Common.{ℕ, [], length, subst, sym}
 use Rattle.wg_transpose.specs.SoFar.{onward, ArePrefixes}
-use Rattle.wg_transpose.proofs.Totals.{sum_is_all}
 use Rattle.wg_transpose.proofs.Whole.{none_placed}
 use Rattle.wg_transpose.proofs.ranges.fill.Goals as goal
-
-pub set_starts-requires : goal.set_starts-requires
-set_starts-requires g c =
-    let whole = onward c.args.from (g.P.Placing.lists c.args.pass.now) in
-    let all = sum_is_all (length c.args.ends.now) whole c.args.ends.now c.requires.counted in
-    record { few = omega (arith, all, c.requires.room, c.requires.few) }
 
 pub place-requires : goal.place-requires
 place-requires g c =

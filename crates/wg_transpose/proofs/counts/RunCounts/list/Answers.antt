@@ -8,6 +8,3 @@ of-requires g c =
     let graph = g.L.Lists.graph c.args.lists.now in
     let h = subst (λ (k : Counted). IsCountOf graph k) (sym c.self.view_is) c.requires.counted in
     record { ready = ready_links graph _ _ h c.self.invariant; degrees = h.degrees }
-
-pub returns : goal.returns
-returns g c = record { graph = c.of.ensures.graph; lists = c.of.ensures.made }

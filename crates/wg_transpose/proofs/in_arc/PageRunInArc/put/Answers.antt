@@ -4,9 +4,7 @@ use Rattle.wg_transpose.proofs.in_arc.PageRunInArc.put.Goals as goal
 use Rattle.wg_transpose.proofs.in_arc.PageRunInArc.put.Goals.{then-reach-target, else-reach-target}
 
 pub bounds-all-end : goal.bounds-all-end
-bounds-all-end c =
-    let r = c.requires.next in
-    longer_within r.0 r.1 r.2 r.3 c.args.target c.args.page r.4 c.args.ends.now c.args.reach.now c.args.all.now r.5 c.requires.few c.if-reach-target.true
+bounds-all-end c = let r = c.requires.next in longer_within _ _ _ _ _ _ r.4 _ _ _ r.5 c.requires.few c.if-reach-target.true
 
 pub offset_bounds-all-end : goal.offset_bounds-all-end
 offset_bounds-all-end c =
@@ -14,9 +12,7 @@ offset_bounds-all-end c =
     omega (arith, c.requires.room, longer_within r.0 r.1 r.2 r.3 c.args.target c.args.page r.4 c.args.ends.now c.args.reach.now c.args.all.now r.5 c.requires.few c.if-reach-target.true)
 
 pub bounds-all-end-else-reach-target : goal.bounds-all-end-else-reach-target
-bounds-all-end-else-reach-target c =
-    let r = c.requires.next in
-    new_within r.0 r.1 r.2 r.3 c.args.target c.args.page r.4 c.args.ends.now c.args.reach.now c.args.all.now r.5 c.if-reach-target.false
+bounds-all-end-else-reach-target c = let r = c.requires.next in new_within _ _ _ _ _ _ r.4 _ _ _ r.5 c.if-reach-target.false
 
 pub offset_bounds-all-end-else-reach-target : goal.offset_bounds-all-end-else-reach-target
 offset_bounds-all-end-else-reach-target c =

@@ -1,12 +1,7 @@
-use Rattle.std.proofs.Common.{refl, ◌∙◌}
+use Rattle.std.proofs.Common.{◌∙◌}
 use Rattle.std.proofs.lemmas.List.{with_items_is}
-use Rattle.std.proofs.lemmas.Result.{IfOk-from_err}
 use Rattle.wg_transpose.proofs.Made.{arcs_held, seen_as, held_as_seen}
 use Rattle.wg_transpose.proofs.in_arcs.InArcs.of.Goals as goal
-
-pub fill-requires : goal.fill-requires
-fill-requires g c =
-    rw (c.deref_mut.ensures.value, c.deref_mut-2.ensures.value, c.deref_mut-3.ensures.len ∙ c.in_ok-all.ensures.len) c.requires.ready
 
 pub invariant_of-result : goal.invariant_of-result
 invariant_of-result g c =
@@ -15,12 +10,6 @@ invariant_of-result g c =
     let all = with_items_is c.in_ok-all.all c.fill.new.all (c.fill.auto.all ∙ c.deref_mut-3.ensures.len) in
     let h = arcs_held t.items t.none _ _ _ _ _ _ _ _ _ c.requires.ready c.requires.degrees ends all c.fill.ensures.filled in
     held_as_seen t.items t.pages t.none g.met.T.InArc.gives_back _ _ _ _ h
-
-pub returns-in_err-all : goal.returns-in_err-all
-returns-in_err-all g c = record {
-  graph = refl;
-  made = IfOk-from_err c.from_residual.result _ c.from_residual.ensures.0;
-}
 
 pub returns : goal.returns
 returns g c =

@@ -2,11 +2,8 @@ use Rattle.std.proofs.Common.{sym, ap, subst, ◌∙◌, arith}
 use Rattle.wg_graph.specs.Arcs.{has_arc}
 use Rattle.wg_graph.proofs.Sets.{below-where}
 use Rattle.wg_transpose.specs.Transposed.{predecessors}
-use Rattle.wg_transpose.proofs.Made.{end_there, in_order, list_there, preds_ascend}
+use Rattle.wg_transpose.proofs.Made.{in_order, list_there, preds_ascend}
 use Rattle.wg_transpose.proofs.in_arcs.InArcs.of_page.Goals as goal
-
-pub span-begin-requires : goal.span-begin-requires
-span-begin-requires g c = rw c.deref.ensures.value (end_there c.self.invariant c.self.view_is c.args.v c.requires)
 
 pub offset_bounds-deref-begin : goal.offset_bounds-deref-begin
 offset_bounds-deref-begin g c =
