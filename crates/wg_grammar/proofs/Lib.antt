@@ -11,3 +11,4 @@ pub mod Tails
 pub mod ProperGraphs
 pub mod Depths
 pub mod CursorLemmas
+pub mod ErrorLemmas

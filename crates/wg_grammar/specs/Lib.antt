@@ -7,6 +7,7 @@ pub mod Members
 pub mod Record
 pub mod Archive
 pub mod Laws
+pub mod Errors
 pub mod Judging
 pub mod Steps
 pub mod Standing

@@ -21,7 +21,7 @@
 //!
 //! Words and tail are read from a [`Source`], wherever its bits come from; whoever reads records is generic over it. A
 //! cursor over bytes in memory is a source that refuses nothing; one that takes its bytes in pieces from a file may
-//! refuse a word, since a read may fail.
+//! refuse a word, since a read may fail. A [`ReadError`] is a fault, a refusal of the source, or a lack of memory.
 //!
 //! The record of the last page, with an outdegree that is refused, and one that ends it:
 //!
@@ -61,6 +61,7 @@
 #![tactic(auto)]
 
 mod cursor;
+mod error;
 mod fault;
 pub mod laws;
 mod need;
@@ -68,6 +69,7 @@ mod progress;
 mod source;
 mod tail;
 
+pub use error::ReadError;
 pub use fault::{ArchiveFault, Fault, Field, Kind, OffsetWord};
 pub use need::Need;
 pub use progress::{Progress, Referenced};
