@@ -1,15 +1,16 @@
 //! The head of a record on its own.
 ghost use Rattle.std.specs.Prelude.{◌≡◌, ◌<◌, ◌≤◌, ℕ, Bool, List as ListOf, min, IfOk, IfErr};
 ghost use Rattle.wg_grammar.specs.Context.{Known};
-ghost use Rattle.wg_decoder.specs.Answer.{context_at, OnFault, OnRefusal, WantsNoMemory};
+ghost use Rattle.wg_grammar.specs.Errors.{OnFault, OnRefusal, WantsNoMemory};
+ghost use Rattle.wg_decoder.specs.Answer.{context_at};
 ghost use Rattle.wg_decoder.specs.Apart.{HeadStands, HeadFails};
 ghost use Rattle.wg_decoder.specs.Chains.{endless};
 
+use crate::Head;
 use crate::behind::Alone;
 use crate::heads::read_head;
-use crate::{Head, Unread};
 use wg_bits::Cursor;
-use wg_grammar::{Fault, Source};
+use wg_grammar::{Fault, ReadError, Source};
 use wg_params::{Layout, Params};
 
 // These parameters, without a limit on chains.
@@ -35,7 +36,7 @@ pub fn head_from<S: Source>(
     page: u64,
     arcs_before: u64,
     source: &mut S,
-) -> Result<Head, Unread<S::Refusal>>
+) -> Result<Head, ReadError<Fault, S::Refusal>>
     requires page { page < params.now.nodes }
     requires before { arcs_before ≤ params.now.arcs }
     ensures later { S.later source.old source.new }
@@ -72,9 +73,9 @@ pub fn head(params: &Params, page: u64, arcs_before: u64, cursor: Cursor<'_>) ->
     match head_from(params, page, arcs_before, &mut ahead) {
         Ok(head) => Ok(head),
         Err(unread) => match unread {
-            Unread::Fault(fault) => Err(fault),
-            Unread::Memory => unreachable!(),
-            Unread::Refused(never) => match never {},
+            ReadError::Fault(fault) => Err(fault),
+            ReadError::Memory => unreachable!(),
+            ReadError::Refused(never) => match never {},
         },
     }
 }

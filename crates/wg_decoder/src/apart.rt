@@ -3,15 +3,15 @@ ghost use Rattle.std.specs.Prelude.{◌<◌, ◌≤◌, Bool, List as ListOf, Ok
 ghost use Rattle.wg_graph.specs.Ascending.{Ascends, Below};
 ghost use Rattle.wg_grammar.specs.Context.{Known};
 ghost use Rattle.wg_grammar.specs.Record.{ReadsRecord};
-ghost use Rattle.wg_decoder.specs.Answer.{OnFault, OnRefusal};
+ghost use Rattle.wg_grammar.specs.Errors.{OnFault, OnRefusal};
 ghost use Rattle.wg_decoder.specs.Apart.{page_on};
 ghost use Rattle.wg_decoder.specs.Remembered.{known_of};
 ghost use Rattle.wg_decoder.specs.Spare.{NoneLonger};
 
 use crate::behind::Alone;
 use crate::reading::decode_from;
-use crate::{Decoded, Spares, Unread};
-use wg_grammar::Source;
+use crate::{Decoded, Spares};
+use wg_grammar::{Fault, ReadError, Source};
 use wg_params::Params;
 
 /// The record that comes next from a source, of a page with `arcs_before` arcs before it. Nothing is known of the pages
@@ -26,7 +26,7 @@ pub fn decode_over<S: Source>(
     depth: u64,
     spares: &mut Spares,
     source: &mut S,
-) -> Result<Decoded, Unread<S::Refusal>>
+) -> Result<Decoded, ReadError<Fault, S::Refusal>>
     requires page { page < params.now.nodes }
     requires before { arcs_before ≤ params.now.arcs }
     requires ascends { Ascends 0 named.now }

@@ -1,11 +1,10 @@
 //! The members of a record whose head has been read.
 ghost use Rattle.std.specs.Prelude.{◌≡◌, ◌<◌, ◌≤◌, Bool, List as ListOf, [], length, OnOk};
 ghost use Rattle.wg_graph.specs.Ascending.{Ascends, Below};
-ghost use Rattle.wg_decoder.specs.Answer.{OnFault, OnRefusal};
+ghost use Rattle.wg_grammar.specs.Errors.{OnFault, OnRefusal};
 ghost use Rattle.wg_decoder.specs.Stages.Members.{AreMembers, AreNoMembers};
 ghost use Rattle.wg_decoder.specs.Spare.{NoneLonger};
 
-use crate::Unread;
 use crate::copying::{chosen, copied};
 use crate::heads::Head;
 use crate::intervals::intervals;
@@ -13,7 +12,7 @@ use crate::residuals::with_residuals;
 use crate::room::first_room;
 use crate::spares::{Spares, reserve};
 use crate::uniting::union;
-use wg_grammar::Source;
+use wg_grammar::{Fault, ReadError, Source};
 use wg_graph::List;
 use wg_params::Params;
 
@@ -28,7 +27,7 @@ pub fn members<S: Source>(
     head: Head,
     named: &[u64],
     source: &mut S,
-) -> Result<(), Unread<S::Refusal>>
+) -> Result<(), ReadError<Fault, S::Refusal>>
     requires empty { list.old ≡ [] }
     requires page { page < params.now.nodes }
     requires some { 0 < head.outdegree }

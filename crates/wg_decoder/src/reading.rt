@@ -3,7 +3,8 @@ ghost use Rattle.std.specs.Prelude.{◌≡◌, ◌+◌, ◌<◌, ◌≤◌, Bool
 ghost use Rattle.wg_graph.specs.Ascending.{Ascends, Below};
 ghost use Rattle.wg_grammar.specs.Record.{ReadsRecord};
 ghost use Rattle.wg_decoder.specs.Stages.Members.{IsRest};
-ghost use Rattle.wg_decoder.specs.Answer.{context_at, known_error, IfFault, OnFault, OnRefusal};
+ghost use Rattle.wg_grammar.specs.Errors.{OnFault, OnRefusal};
+ghost use Rattle.wg_decoder.specs.Answer.{context_at, known_error, IfFault};
 ghost use Rattle.wg_decoder.specs.Remembered.{known_of, Serves};
 ghost use Rattle.wg_decoder.specs.Spare.{NoneLonger};
 
@@ -11,11 +12,11 @@ use crate::behind::Behind;
 use crate::heads::{Head, read_head};
 use crate::members::members;
 use crate::spares::lend;
-use crate::{DecodeError, Decoded, Spares, Unread, Window};
+use crate::{DecodeError, Decoded, Spares, Window};
 use std::alloc::Global;
 use std::convert::Infallible;
 use wg_bits::Cursor;
-use wg_grammar::{Fault, Field, Kind, Source};
+use wg_grammar::{Fault, Field, Kind, ReadError, Source};
 use wg_params::Params;
 
 /// The rest of a record that begins at the bit `start` and whose head has been read. Its reference names a page with
@@ -30,7 +31,7 @@ pub(crate) fn decode_members<S: Source>(
     depth: u64,
     spares: &mut Spares,
     source: &mut S,
-) -> Result<Decoded, Unread<S::Refusal>>
+) -> Result<Decoded, ReadError<Fault, S::Refusal>>
     requires page { page < params.now.nodes }
     requires there { head.reference ≤ params.now.window }
     requires named_ascends { Ascends 0 named.now }
@@ -54,7 +55,7 @@ pub(crate) fn decode_members<S: Source>(
     }
     members(&mut list, spares, params, page, head, named, source)?;
     if (list.as_slice().len() as u64) < head.outdegree {
-        return Err(Unread::Fault(Fault {
+        return Err(ReadError::Fault(Fault {
             page,
             at: start,
             field: Field::Record,
@@ -76,7 +77,7 @@ pub fn decode_from<S: Source, B: Behind>(
     behind: &B,
     spares: &mut Spares,
     source: &mut S,
-) -> Result<Decoded, Unread<S::Refusal>>
+) -> Result<Decoded, ReadError<Fault, S::Refusal>>
     requires page { page < params.now.nodes }
     requires before { arcs_before ≤ params.now.arcs }
     requires serves { Serves params.now page (B.pages behind.now) }
@@ -102,13 +103,13 @@ pub fn decode_from<S: Source, B: Behind>(
 }
 
 // Bits in memory refuse no word.
-pub(crate) fn error_of(unread: Unread<Infallible>) -> DecodeError
+pub(crate) fn error_of(unread: ReadError<Fault, Infallible>) -> DecodeError
     ensures { result ≡ known_error unread }
 {
     match unread {
-        Unread::Fault(fault) => DecodeError::Fault(fault),
-        Unread::Memory => DecodeError::Memory,
-        Unread::Refused(never) => match never {},
+        ReadError::Fault(fault) => DecodeError::Fault(fault),
+        ReadError::Memory => DecodeError::Memory,
+        ReadError::Refused(never) => match never {},
     }
 }
 

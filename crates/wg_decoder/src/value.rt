@@ -4,12 +4,11 @@ ghost use Rattle.std.specs.Option.{ForSome};
 ghost use Rattle.wg_params.specs.Codes.{IsCode};
 ghost use Rattle.wg_params.specs.declared.limits.TheConstants.{MOST_PAGES};
 ghost use Rattle.wg_codes.specs.Fold.{number_of_gap};
-ghost use Rattle.wg_decoder.specs.Answer.{OnFault, OnRefusal, WantsNoMemory};
+ghost use Rattle.wg_grammar.specs.Errors.{OnFault, OnRefusal, WantsNoMemory};
 ghost use Rattle.wg_decoder.specs.Stages.Leading.{IsWordAt, IsNoWordAt, IsNumberAt, IsNoNumberAt};
 
-use crate::Unread;
 use wg_codes::{Read, unfold_from};
-use wg_grammar::{Fault, Field, Kind, Source};
+use wg_grammar::{Fault, Field, Kind, ReadError, Source};
 use wg_params::Code;
 
 // The value of the word that comes next. The usual code is asked for first, so that its words need not be told from
@@ -21,7 +20,7 @@ pub fn usual_value<S: Source>(
     field: Field,
     code: Code,
     source: &mut S,
-) -> Result<u64, Unread<S::Refusal>>
+) -> Result<u64, ReadError<Fault, S::Refusal>>
     requires { IsCode code }
     ensures later { S.later source.old source.new }
     ensures no_memory { WantsNoMemory result }
@@ -39,17 +38,17 @@ pub fn usual_value<S: Source>(
     };
     let read = match word {
         Ok(read) => read,
-        Err(refusal) => return Err(Unread::Refused(refusal)),
+        Err(refusal) => return Err(ReadError::Refused(refusal)),
     };
     match read {
         Read::Value(value) => Ok(value),
-        Read::Cut => Err(Unread::Fault(Fault {
+        Read::Cut => Err(ReadError::Fault(Fault {
             page,
             at,
             field,
             kind: Kind::Cut,
         })),
-        Read::NoWord => Err(Unread::Fault(Fault {
+        Read::NoWord => Err(ReadError::Fault(Fault {
             page,
             at,
             field,
@@ -65,7 +64,7 @@ pub fn value<S: Source>(
     field: Field,
     code: Code,
     source: &mut S,
-) -> Result<u64, Unread<S::Refusal>>
+) -> Result<u64, ReadError<Fault, S::Refusal>>
     requires { IsCode code }
     ensures later { S.later source.old source.new }
     ensures no_memory { WantsNoMemory result }
@@ -88,7 +87,7 @@ pub fn number<S: Source>(
     field: Field,
     code: Code,
     source: &mut S,
-) -> Result<u64, Unread<S::Refusal>>
+) -> Result<u64, ReadError<Fault, S::Refusal>>
     requires page { page ≤ MOST_PAGES }
     requires code { IsCode code }
     requires before { ForSome before (λ b. b < 2 ^ 63) }
@@ -117,7 +116,7 @@ pub fn first_number<S: Source>(
     field: Field,
     code: Code,
     source: &mut S,
-) -> Result<u64, Unread<S::Refusal>>
+) -> Result<u64, ReadError<Fault, S::Refusal>>
     requires page { page ≤ MOST_PAGES }
     requires code { IsCode code }
     ensures later { S.later source.old source.new }
@@ -140,7 +139,7 @@ pub fn first_number<S: Source>(
     };
     match unfold_from(page, value) {
         Some(number) if number < nodes => Ok(number),
-        _ => Err(Unread::Fault(refused)),
+        _ => Err(ReadError::Fault(refused)),
     }
 }
 
@@ -153,7 +152,7 @@ pub fn later_number<S: Source>(
     code: Code,
     before: u64,
     source: &mut S,
-) -> Result<u64, Unread<S::Refusal>>
+) -> Result<u64, ReadError<Fault, S::Refusal>>
     requires code { IsCode code }
     requires before { before < 2 ^ 63 }
     ensures later { S.later source.old source.new }
@@ -171,7 +170,7 @@ pub fn later_number<S: Source>(
     let at = source.at();
     let value = value(page, field, code, source)?;
     if value >= nodes.saturating_sub(least) {
-        return Err(Unread::Fault(Fault {
+        return Err(ReadError::Fault(Fault {
             page,
             at,
             field,

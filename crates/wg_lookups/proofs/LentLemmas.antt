@@ -11,14 +11,14 @@ use Rattle.wg_params.specs.Parameters.{Parameters}
 use Rattle.wg_source.specs.Held.{HeldBytes, IsHeldOf}
 use Rattle.wg_source.specs.Stepping.{Steps, Moves, HasCause}
 use Rattle.wg_source.specs.StepLaws.{there_after}
-use Rattle.wg_offsets.specs.Errors.{IfRefusalOf, IfWordOf, OnRefusal, OnWord}
+use Rattle.wg_grammar.specs.Errors.{OfFault, OfRefusal, OnFault, OnRefusal, WantsNoMemory}
 use Rattle.wg_offsets.specs.Words.{ReadsOffsets}
 use Rattle.wg_offsets.specs.Sampling.{IsSampleOf}
-use Rattle.wg_offsets.specs.declared.error.PlacesError.{PlacesError}
-use Rattle.wg_offsets.specs.declared.error.WordError.{WordError}
+use Rattle.wg_grammar.specs.declared.error.ReadError.{ReadError}
+use Rattle.wg_grammar.specs.declared.fault.OffsetWord.{OffsetWord}
 use Rattle.wg_outcomes.specs.declared.ending.Ending.{Ending}
-use Rattle.wg_readings.specs.Pairing.{IsStopped, places_ending}
-use Rattle.wg_readings.proofs.PairingLemmas.{places_stopped}
+use Rattle.wg_readings.specs.Pairing.{IsStopped, word_ending}
+use Rattle.wg_readings.proofs.PairingLemmas.{word_stopped}
 use Rattle.wg_lookups.specs.Sampling.{HasWordCause}
 use Rattle.wg_lookups.specs.declared.sampled.SampledFile.{SampledFile}
 use Rattle.wg_lookups.proofs.SamplingLemmas.{word_caused}
@@ -50,24 +50,26 @@ module _ {D N : Type 0} (files : D → Files) (counts : D → List ℕ → Count
   cause_lent name h e a = subst (λ (d : D). HasCause told name (files d1) (counts d1) (counts d) h e) (sym (end (sym left))) a
 
   -- the offsets file was not read to its end
-  pub stopped_lent : (name : List ℕ) (h : HeldBytes) (p : Parameters) (code : Code) (pages : ℕ) → code ≡ p.offsets → pages ≡ p.nodes → (e : PlacesError LoadError) (ending : Ending) → ending ≡ places_ending p.arcs e
-      → IfRefusalOf e (HasCause told name (files d1) (counts d1) (counts d2) h) → ((bits : List Bool) → HasBitsOf told (files d1) name h bits → IfWordOf e (λ w. ReadsOffsets code pages bits (Err w)))
+  pub stopped_lent : (name : List ℕ) (h : HeldBytes) (p : Parameters) (code : Code) (pages : ℕ) → code ≡ p.offsets → pages ≡ p.nodes → (e : ReadError OffsetWord LoadError) (ending : Ending)
+      → ending ≡ word_ending p.arcs e
+      → OfRefusal e (HasCause told name (files d1) (counts d1) (counts d2) h) → ((bits : List Bool) → HasBitsOf told (files d1) name h bits → OfFault e (λ w. ReadsOffsets code pages bits (Err w)))
       → (IsTrue told → IsOpenOn (map.get (files d1) name) h) → IsStopped told (files d1) (counts d1) (counts d3) p name ending
   stopped_lent name h p code pages is_code is_pages e ending is refused fault open_on =
       subst (IsStopped told (files d1) (counts d1) (counts d3) p name) (sym is)
-      (places_stopped told name (files d1) (counts d1) (counts d3) h p e
-      (subst (λ (d : D). IfRefusalOf e (HasCause told name (files d1) (counts d1) (counts d) h)) (sym (end (sym left))) refused) open_on
+      (word_stopped told name (files d1) (counts d1) (counts d3) h p e
+      (subst (λ (d : D). OfRefusal e (HasCause told name (files d1) (counts d1) (counts d) h)) (sym (end (sym left))) refused) open_on
       (λ t file there at.
-      subst (λ (c : Code). IfWordOf e (λ w. ReadsOffsets c p.nodes (bits_of file) (Err w))) is_code
-      (subst (λ (k : ℕ). IfWordOf e (λ w. ReadsOffsets code k (bits_of file) (Err w))) is_pages
+      subst (λ (c : Code). OfFault e (λ w. ReadsOffsets c p.nodes (bits_of file) (Err w))) is_code
+      (subst (λ (k : ℕ). OfFault e (λ w. ReadsOffsets code k (bits_of file) (Err w))) is_pages
       (fault (bits_of file) (t, (file, there, at, refl))))))
 
   -- words of the offsets file were not read again
   pub words_lent : {A : Type 0} (d : D) (s : SampledFile) (name : List ℕ) (h : HeldBytes) → name ≡ s.file.name → Moves told s.file.name (files d1) (files d) (counts d1) (counts d) s.file.held h
-      → (x : Result A (WordError LoadError)) → OnRefusal x (HasCause told name (files d) (counts d) (counts d2) h)
-      → ((bits : List Bool) (places : List ℕ) → HasBitsOf told (files d) name h bits → IsSampleOf bits s.samples places → OnWord x (λ w. ⊥)) → IfErr x (HasWordCause told (files d1) (counts d1) (counts d3) s)
-  words_lent d s name h is moves x refused right =
-      word_caused told (files d1) (files d) (counts d1) (counts d) (counts d3) s h x moves
+      → (x : Result A (ReadError OffsetWord LoadError)) → WantsNoMemory x → OnRefusal x (HasCause told name (files d) (counts d) (counts d2) h)
+      → ((bits : List Bool) (places : List ℕ) → HasBitsOf told (files d) name h bits → IsSampleOf bits s.samples places → OnFault x (λ w. ⊥))
+      → IfErr x (HasWordCause told (files d1) (counts d1) (counts d3) s)
+  words_lent d s name h is moves x other refused right =
+      word_caused told (files d1) (files d) (counts d1) (counts d) (counts d3) s h x moves other
       (subst (λ (k : List ℕ). OnRefusal x (HasCause told k (files d) (counts d) (counts d3) h)) is
       (subst (λ (b : D). OnRefusal x (HasCause told name (files d) (counts d) (counts b) h)) (sym (end (sym left))) refused))
       (λ t places on. right (bits_of on.open_on.file) places (found_moved told s.file.name name (files d1) (files d) (counts d1) (counts d) s.file.held h is moves t on.open_on) on.is)

@@ -11,7 +11,6 @@ use Rattle.wg_outside.specs.declared.output.Output.TheVariants.{Out}
 use Rattle.wg_outside.specs.declared.whole.LoadError.{LoadError}
 use Rattle.wg_outside.specs.declared.whole.LoadError.TheVariants as load
 use Rattle.wg_outside.specs.declared.limits.TheConstants.{MOST_BYTES}
-use Rattle.wg_offsets.specs.declared.error.WordError.TheVariants as words
 use Rattle.wg_outside.proofs.FilesLemmas.{none_falls-trans}
 use Rattle.wg_bits.specs.Bits.{bits_of}
 use Rattle.wg_params.specs.Parameters.{Parameters, IsWithinLimits}
@@ -19,9 +18,9 @@ use Rattle.wg_grammar.specs.declared.fault.ArchiveFault.{ArchiveFault}
 use Rattle.wg_grammar.specs.declared.fault.ArchiveFault.TheVariants as archive
 use Rattle.wg_source.specs.Held.{HeldBytes}
 use Rattle.wg_source.specs.Stepping.{HasCause as HasReadCause}
-use Rattle.wg_stream.specs.Errors.{OfRefusal}
-use Rattle.wg_stream.specs.declared.error.PagesError.{PagesError}
-use Rattle.wg_stream.specs.declared.error.PagesError.TheVariants as errors
+use Rattle.wg_grammar.specs.Errors.{OfRefusal}
+use Rattle.wg_grammar.specs.declared.error.ReadError.{ReadError}
+use Rattle.wg_grammar.specs.declared.error.ReadError.TheVariants as errors
 use Rattle.wg_random.specs.Spot.{ChainAnswers}
 use Rattle.wg_words.specs.declared.jobs.Job.{Job}
 use Rattle.wg_words.specs.declared.jobs.Job.TheVariants.{Spot}
@@ -92,10 +91,11 @@ module _ (names : Input → Option (List ℕ)) (g : FoundFile) (s : SampledFile)
       ∙ ap (λ (o : Option (List ℕ)). successors_then r p (sampled t).places page o next) (here ∙ (open_on t).is)
       ∙ file_goes Graph (open_on t).file (open_on t).short (λ bytes. with_successors r p bytes (sampled t).places page next)
 
-  abbrev AnswersWith : Result (List ℕ) (PagesError Unread) → ℕ → ℕ → Type 0
+  abbrev AnswersWith : Result (List ℕ) (ReadError ArchiveFault Unread) → ℕ → ℕ → Type 0
   AnswersWith result from to = (bits : List Bool) (places : List ℕ) → HasBits told files g bits → HasPlaces told files s places → ChainAnswers {R = Unread} p bits places page from to result
 
-  known : (result : Result (List ℕ) (PagesError Unread)) (from to : ℕ) → AnswersWith result from to → (t : IsTrue told) → ChainAnswers {R = Unread} p (bits_of (open_on t).file) (sampled t).places page from to result
+  known : (result : Result (List ℕ) (ReadError ArchiveFault Unread)) (from to : ℕ) → AnswersWith result from to → (t : IsTrue told)
+      → ChainAnswers {R = Unread} p (bits_of (open_on t).file) (sampled t).places page from to result
   known result from to answers t =
       let o = open_on t in
       answers (bits_of o.file) (sampled t).places (t, (o.file, o.is, o.held, refl)) (t, (sampled t).on)
@@ -128,7 +128,8 @@ module _ (names : Input → Option (List ℕ)) (g : FoundFile) (s : SampledFile)
       (subst (λ (s : Status). HasCause names no_outputs counts counts' 0 0 s) (sym is) (caused_at told name files counts counts' h i x cause names is_named))
       (still_open told name files counts counts' h i x e.status is cause found)
 
-  pub unspotted : page < p.nodes → (x : PagesError Unread) (e : Ending) (from to : ℕ) → EndsBy p.arcs x e → AnswersWith (Err x) from to → OfRefusal x (HasChainCause told files counts counts' g s)
+  pub unspotted : page < p.nodes → (x : ReadError ArchiveFault Unread) (e : Ending) (from to : ℕ) → EndsBy p.arcs x e → AnswersWith (Err x) from to
+      → OfRefusal x (HasChainCause told files counts counts' g s)
       → SpotsPage names p page told files files' counts counts' (Err e)
   unspotted lt (errors.Fault f) e from to is answers cause = record {
     only = bad_chain told page p.arcs f e is.0 is.1;
@@ -149,9 +150,10 @@ module _ (names : Input → Option (List ℕ)) (g : FoundFile) (s : SampledFile)
   }
   unspotted lt (errors.Refused (unread.Graph x)) e from to is answers cause =
       unread_from Graph g.name g.held named open_on x e is (λ own. inl own) cause
-  unspotted lt (errors.Refused (unread.Offsets (words.Refused x))) e from to is answers cause =
+  unspotted lt (errors.Refused (unread.Offsets (errors.Refused x))) e from to is answers cause =
       unread_from Offsets s.file.name s.file.held stored (λ t. (sampled t).on.open_on) x e (ap (λ (d : Ending). d.status) is) (λ own. inr own) cause
-  unspotted lt (errors.Refused (unread.Offsets (words.Word w))) e from to is answers cause = record {
+  unspotted lt (errors.Refused (unread.Offsets errors.Memory)) e from to is answers cause = absurd cause
+  unspotted lt (errors.Refused (unread.Offsets (errors.Fault w))) e from to is answers cause = record {
     only = bad_chain told page p.arcs (archive.Offsets w) e (ap (λ (d : Ending). d.status) is) (ap (λ (d : Ending). d.promised) is);
     causes = own_caused _ _ _ _ _ _ e.status (subst (λ (d : Ending). IsOwn d.status) (sym is) tt);
     steps = λ t r next. absurd (cause t (sampled t).places (sampled t).on);

@@ -7,7 +7,8 @@ use Rattle.wg_outside.proofs.PutsLemmas.{is_that_err}
 use Rattle.wg_bits.specs.Bits.{bits_of}
 use Rattle.wg_params.specs.Parameters.{Parameters}
 use Rattle.wg_source.specs.Held.{HeldBytes, IsHeldOf}
-use Rattle.wg_stream.specs.declared.error.PagesError.{PagesError}
+use Rattle.wg_grammar.specs.declared.error.ReadError.{ReadError}
+use Rattle.wg_grammar.specs.declared.fault.ArchiveFault.{ArchiveFault}
 use Rattle.wg_random.specs.Spot.{ChainAnswers}
 use Rattle.wg_outcomes.specs.Names.{file_of, held_by}
 use Rattle.wg_outcomes.specs.declared.ending.Ending.{Ending}
@@ -35,7 +36,8 @@ graph_at base files files1 files2 name h named same same2 found bytes is =
     (ap (λ (f : Files). map.get f name) same2 ∙ there, subst (λ (b : List ℕ). IsHeldOf b h) one found.held)
 
 module _ (base : List ℕ) (files files1 : Files) (p q : Parameters) (bytes : List ℕ) (page from to : ℕ) where
-  opened : (answer : Result (List ℕ) (PagesError Unread)) → files1 ≡ files → p ≡ q → (s : SampledFile) → (stored : IsSampled (file_of base) files1 p s) → ChainAnswers p (bits_of bytes) stored.places page from to answer
+  opened : (answer : Result (List ℕ) (ReadError ArchiveFault Unread)) → files1 ≡ files → p ≡ q → (s : SampledFile) → (stored : IsSampled (file_of base) files1 p s)
+      → ChainAnswers p (bits_of bytes) stored.places page from to answer
       → IsChainOpened (held_by (file_of base) files) q bytes page from to answer
   opened answer same params s stored answers =
       subst (λ (f : Files). IsChainOpened (held_by (file_of base) f) q bytes page from to answer) same

@@ -3,8 +3,9 @@ use Rattle.std.proofs.Common.{◌≡◌, ℕ, Bool, List, refl, sym, ◌∙◌, 
 use Rattle.wg_outside.specs.Outside.{Files, Counts}
 use Rattle.wg_bits.specs.Bits.{bits_of}
 use Rattle.wg_offsets.specs.Sampling.{Sampled, IsSampleOf}
-use Rattle.wg_offsets.specs.declared.error.WordError.{WordError}
-use Rattle.wg_offsets.specs.declared.error.WordError.TheVariants as words
+use Rattle.wg_grammar.specs.declared.error.ReadError.{ReadError}
+use Rattle.wg_grammar.specs.declared.fault.OffsetWord.{OffsetWord}
+use Rattle.wg_grammar.specs.declared.error.ReadError.TheVariants as words
 use Rattle.wg_outside.specs.declared.whole.LoadError.{LoadError}
 use Rattle.wg_source.specs.Held.{HeldBytes}
 use Rattle.wg_source.specs.Stepping.{Moves}
@@ -83,11 +84,12 @@ module _ (told : Bool) (f1 f2 : Files) (c1 c2 : List ℕ → Counts) (g1 g2 : Fo
         },
       )
 
-  word_cause : (c3 : List ℕ → Counts) (e : WordError LoadError) → ReadsBoth told f1 f2 c1 c2 g1 g2 s1 s2
+  word_cause : (c3 : List ℕ → Counts) (e : ReadError OffsetWord LoadError) → ReadsBoth told f1 f2 c1 c2 g1 g2 s1 s2
       → HasWordCause told f2 c2 c3 s2 e → HasWordCause told f1 c1 c3 s1 e
   word_cause c3 (words.Refused e) a x =
       cause_after told s1.file.name s2.file.name f1 f2 c1 c2 c3 s1.file.held s2.file.held e a.stored a.offsets x
-  word_cause c3 (words.Word w) a x = λ t places on. x t places (places_after places a (t, on)).1
+  word_cause c3 words.Memory a x = x
+  word_cause c3 (words.Fault w) a x = λ t places on. x t places (places_after places a (t, on)).1
 
   pub chain_cause_after : (c3 : List ℕ → Counts) (e : Unread) → ReadsBoth told f1 f2 c1 c2 g1 g2 s1 s2
       → HasChainCause told f2 c2 c3 g2 s2 e → HasChainCause told f1 c1 c3 g1 s1 e

@@ -7,8 +7,9 @@ use Rattle.wg_outside.specs.declared.whole.LoadError.{LoadError}
 use Rattle.wg_bits.specs.Bits.{bits_of}
 use Rattle.wg_params.specs.Parameters.{Parameters}
 use Rattle.wg_offsets.specs.Sampling.{Sampled, IsSampleOf}
-use Rattle.wg_offsets.specs.declared.error.WordError.{WordError}
-use Rattle.wg_offsets.specs.declared.error.WordError.TheVariants as words
+use Rattle.wg_grammar.specs.declared.error.ReadError.{ReadError}
+use Rattle.wg_grammar.specs.declared.fault.OffsetWord.{OffsetWord}
+use Rattle.wg_grammar.specs.declared.error.ReadError.TheVariants as words
 use Rattle.wg_source.specs.Stepping.{HasCause as HasReadCause}
 use Rattle.wg_outcomes.specs.Answers.{Steps}
 use Rattle.wg_outcomes.specs.Judged.{offsets_then}
@@ -52,9 +53,11 @@ SamplesOffsetsBy d base p before after result =
     SamplesOffsets base p d.told (d.files before) (d.files after) (d.counts before) (d.counts after) result
 
 -- Why words that were read before are not read again: as with any file, or the file is not the one that was sampled.
-abbrev pub HasWordCause : Bool → Files → (List ℕ → Counts) → (List ℕ → Counts) → SampledFile → WordError LoadError
+abbrev pub HasWordCause : Bool → Files → (List ℕ → Counts) → (List ℕ → Counts) → SampledFile
+    → ReadError OffsetWord LoadError
     → Type 0
 HasWordCause told files counts counts' s (words.Refused e) =
     HasReadCause told s.file.name files counts counts' s.file.held e
-HasWordCause told files counts counts' s (words.Word w) = IsTrue told → (places : List ℕ)
+HasWordCause told files counts counts' s words.Memory = ⊥
+HasWordCause told files counts counts' s (words.Fault w) = IsTrue told → (places : List ℕ)
     → IsSampledOn (map.get files s.file.name) s places → ⊥

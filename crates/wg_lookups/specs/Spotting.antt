@@ -5,8 +5,9 @@ use Rattle.wg_outside.specs.declared.depot.Depot as depot
 use Rattle.wg_bits.specs.Bits.{bits_of}
 use Rattle.wg_params.specs.Parameters.{Parameters}
 use Rattle.wg_random.specs.Spot.{ChainAnswers}
-use Rattle.wg_stream.specs.declared.error.PagesError.{PagesError}
-use Rattle.wg_stream.specs.declared.error.PagesError.TheVariants as errors
+use Rattle.wg_grammar.specs.declared.error.ReadError.{ReadError}
+use Rattle.wg_grammar.specs.declared.fault.ArchiveFault.{ArchiveFault}
+use Rattle.wg_grammar.specs.declared.error.ReadError.TheVariants as errors
 use Rattle.wg_outcomes.specs.Answers.{IsHindrance, Steps, status_in}
 use Rattle.wg_outcomes.specs.Causes.{HasCause}
 use Rattle.wg_outcomes.specs.Judged.{Judged, offsets_then, with_file, with_successors}
@@ -23,7 +24,7 @@ use Rattle.wg_lookups.specs.declared.chain_files.Unread.{Unread}
 use Rattle.wg_lookups.specs.declared.chain_files.Unread.TheVariants as unread
 
 -- how a job ends at a page that was not read, if the properties promise so many arcs
-abbrev pub EndsBy : ℕ → PagesError Unread → Ending → Type 0
+abbrev pub EndsBy : ℕ → ReadError ArchiveFault Unread → Ending → Type 0
 EndsBy promised (errors.Fault f) e = (e.status ≡ BadArchive f) × (e.promised ≡ promised)
 EndsBy promised errors.Memory e = e.status ≡ Memory
 EndsBy promised (errors.Refused (unread.Graph x)) e = e.status ≡ status_at input.Graph x
@@ -67,11 +68,11 @@ SpotsPageBy d names p page before after result =
 abbrev pub OpensChain : Parameters → List Bool → List ℕ → ℕ → ℕ → ℕ → Result (List ℕ) Ending → Type 0
 OpensChain p bits places page from to (Ok list) = ChainAnswers {R = Unread} p bits places page from to (Ok list)
 OpensChain p bits places page from to (Err e) =
-    (to ≡ from) ⊎ ((why : PagesError Unread) × ChainAnswers p bits places page from to (Err why))
+    (to ≡ from) ⊎ ((why : ReadError ArchiveFault Unread) × ChainAnswers p bits places page from to (Err why))
 
 -- The records of a page's chain were opened, by the places that a validation finds in the archive's offsets file.
 pub record IsChainOpened (held : Input → Option (List ℕ)) (p : Parameters) (bytes : List ℕ) (page from to : ℕ)
-    (answer : Result (List ℕ) (PagesError Unread)) : Type 0 where
+    (answer : Result (List ℕ) (ReadError ArchiveFault Unread)) : Type 0 where
   pub places : List ℕ
   pub stored : (r : Readings) → Steps {B = List ℕ} (offsets_then r p (held input.Offsets)) (Ok places)
   pub answers : ChainAnswers p (bits_of bytes) places page from to answer
@@ -82,7 +83,7 @@ pub record SpotsByChain (held : Input → Option (List ℕ)) (p : Parameters) (b
     (result : Result (Unit {0}) Ending) : Type 0 where
   pub each : OnOk result ((list : List ℕ) × IsChainOpened held p bytes page from to (Ok list))
   pub most : (to ≡ from)
-      ⊎ ((answer : Result (List ℕ) (PagesError Unread)) × IsChainOpened held p bytes page from to answer)
+      ⊎ ((answer : Result (List ℕ) (ReadError ArchiveFault Unread)) × IsChainOpened held p bytes page from to answer)
 
 abbrev pub SpotsByChainIn : {D : Type 0} → depot.Ghosts D → List ℕ → ℕ → D → ℕ → ℕ → Result (Unit {0}) Ending → Type 0
 SpotsByChainIn d base page before from to result =

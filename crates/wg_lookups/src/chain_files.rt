@@ -13,8 +13,8 @@ ghost use Rattle.std.proofs.Common.{refl, ap, ◌∙◌};
 use crate::found_file::FoundFile;
 use crate::sampled::{SampledFile, extent_of};
 use wg_codes::Read;
-use wg_grammar::Source;
-use wg_offsets::{Extent, WordError};
+use wg_grammar::{OffsetWord, ReadError, Source};
+use wg_offsets::Extent;
 use wg_outside::{Depot, LoadError};
 use wg_params::Code;
 use wg_random::Located;
@@ -24,7 +24,7 @@ use wg_source::{FileSource, Seek};
 pub enum Unread {
     Graph(LoadError),
     /// A word may be refused if the file is not the one that was sampled.
-    Offsets(WordError<LoadError>),
+    Offsets(ReadError<OffsetWord, LoadError>),
 }
 
 // Reads what comes next in the graph file.

@@ -13,13 +13,13 @@ use crate::found_file::FoundFile;
 use crate::sampled::SampledFile;
 use std::alloc::Global;
 use std::sync::ledger::Ledger;
+use wg_grammar::{ArchiveFault, ReadError};
 use wg_graph::List;
 use wg_outcomes::{Ending, Input, Status};
 use wg_outside::Depot;
 use wg_params::Params;
 use wg_random::{Steps as Ticks, spot_from};
 use wg_readings::{bad_archive, unread, word_ending};
-use wg_stream::PagesError;
 
 /// The successors of a page, by the records of its chain of references alone: no other record of the graph file is
 /// read, and of the offsets file the words from the last sampled page on. It takes time in proportion to the records
@@ -56,13 +56,13 @@ pub fn successors_of_page<L: Ledger, D: Depot>(
 }
 
 // How a job ends at a page that was not read.
-fn ending_of(error: PagesError<Unread>, params: &Params) -> Ending
+fn ending_of(error: ReadError<ArchiveFault, Unread>, params: &Params) -> Ending
     ensures { EndsBy params.now.arcs error result }
 {
     match error {
-        PagesError::Fault(fault) => bad_archive(fault, params),
-        PagesError::Memory => Ending::of(Status::Memory),
-        PagesError::Refused(Unread::Graph(error)) => unread(error, Input::Graph),
-        PagesError::Refused(Unread::Offsets(error)) => word_ending(error, params),
+        ReadError::Fault(fault) => bad_archive(fault, params),
+        ReadError::Memory => Ending::of(Status::Memory),
+        ReadError::Refused(Unread::Graph(error)) => unread(error, Input::Graph),
+        ReadError::Refused(Unread::Offsets(error)) => word_ending(error, params),
     }
 }

@@ -5,14 +5,14 @@ ghost use Rattle.wg_params.specs.Parameters.{IsWithinLimits};
 ghost use Rattle.wg_source.specs.Held.{IsHeldOf};
 ghost use Rattle.wg_source.specs.Stepping.{Steps as StepsOn, Moves};
 ghost use Rattle.wg_readings.specs.Finding.{IsOpenOn};
-ghost use Rattle.wg_readings.specs.Pairing.{IsStopped, places_ending};
+ghost use Rattle.wg_readings.specs.Pairing.{IsStopped};
 ghost use Rattle.wg_lookups.specs.Sampling.{HasWordCause, IsSampledBy, IsSampledOn, SamplesOffsetsBy};
 
 use crate::found_file::{FoundFile, find_file};
 use std::alloc::Global;
-use wg_grammar::OffsetWord;
-use wg_offsets::{Extent, PlacesError, Samples, WordError};
-use wg_outcomes::{Ending, Input, Status};
+use wg_grammar::{OffsetWord, ReadError};
+use wg_offsets::{Extent, Samples};
+use wg_outcomes::{Ending, Input};
 use wg_outside::{Depot, LoadError};
 use wg_params::Params;
 use wg_readings::word_ending;
@@ -24,19 +24,6 @@ use wg_words::Name;
 pub struct SampledFile {
     pub file: FoundFile,
     pub samples: Samples,
-}
-
-// How a job ends whose offsets file was not read to its end.
-#[cold]
-#[inline(never)]
-fn places_ending(error: PlacesError<LoadError>, params: &Params) -> Ending
-    ensures { result ≡ places_ending params.now.arcs error }
-{
-    match error {
-        PlacesError::Word(word) => word_ending(WordError::Word(word), params),
-        PlacesError::Refused(error) => word_ending(WordError::Refused(error), params),
-        PlacesError::Memory => Ending::of(Status::Memory),
-    }
 }
 
 // Validates all words of the file.
@@ -61,7 +48,7 @@ fn samples_of_file<D: Depot>(
     let mut source = FileSource::new(depot, file.name.as_str(), &mut file.held);
     match Samples::read(alloc, &mut source, params.nodes(), params.offsets()) {
         Ok(samples) => Ok(samples),
-        Err(error) => Err(places_ending(error, params)),
+        Err(error) => Err(word_ending(error, params)),
     }
 }
 
@@ -86,7 +73,7 @@ pub fn extent_of<D: Depot>(
     sampled: &mut SampledFile,
     depot: &mut D,
     page: u64,
-) -> Result<Extent, WordError<LoadError>>
+) -> Result<Extent, ReadError<OffsetWord, LoadError>>
     requires { page < sampled.old.samples.pages }
     ensures name { sampled.new.file.name ≡ sampled.old.file.name }
     ensures samples { sampled.new.samples ≡ sampled.old.samples }
@@ -103,7 +90,7 @@ pub fn extent_of<D: Depot>(
     let mut source = FileSource::new(depot, sampled.file.name.as_str(), &mut sampled.file.held);
     match source.go_to(bit) {
         Ok(true) => sampled.samples.extent(page, &mut source),
-        Ok(false) => Err(WordError::Word(OffsetWord::Cut(sampled.samples.first_word(page)))),
-        Err(error) => Err(WordError::Refused(error)),
+        Ok(false) => Err(ReadError::Fault(OffsetWord::Cut(sampled.samples.first_word(page)))),
+        Err(error) => Err(ReadError::Refused(error)),
     }
 }

@@ -10,12 +10,12 @@ use Rattle.wg_codes.proofs.CodeLaws.{one_result, value_front}
 use Rattle.wg_graph.specs.Copied.{ends_of}
 use Rattle.wg_graph.proofs.Copies.{sum_cons}
 use Rattle.wg_grammar.specs.declared.fault.OffsetWord.{OffsetWord}
-use Rattle.wg_offsets.specs.Errors.{OfWord}
+use Rattle.wg_grammar.specs.Errors.{OfFault}
+use Rattle.wg_grammar.proofs.ErrorLemmas.{fault_weaker}
 use Rattle.wg_offsets.specs.Sampling.{AreSamples, IsSampleOf, Sampled, bit_before}
 use Rattle.wg_offsets.specs.Stages.{AreRead, WordsStand, WordsRead}
 use Rattle.wg_offsets.specs.Words.{Words, ReadsOffsets}
-use Rattle.wg_offsets.specs.declared.error.WordError.{WordError}
-use Rattle.wg_offsets.specs.declared.error.WordError.TheVariants as words
+use Rattle.wg_grammar.specs.declared.error.ReadError.{ReadError}
 use Rattle.wg_offsets.specs.declared.samples.TheConstants.{SAMPLED}
 use Rattle.wg_offsets.proofs.OneFile.{offsets_one}
 
@@ -80,9 +80,9 @@ never c coded n bits places good w bad =
     let same : fine ≡ refused = offsets_one c coded n bits fine refused good bad in
     cc
 
-pub none_refused : {R : Type 0} (c : Code) → IsCode c → (n : ℕ) (bits : List Bool) (places : List ℕ) → ReadsOffsets c n bits (Ok places) → (e : WordError R) → OfWord e (λ w. ReadsOffsets c n bits (Err w)) → OfWord e (λ w. ⊥)
-none_refused c coded n bits places good (words.Word w) bad = never c coded n bits places good w bad
-none_refused c coded n bits places good (words.Refused r) bad = tt
+pub none_refused : {R : Type 0} (c : Code) → IsCode c → (n : ℕ) (bits : List Bool) (places : List ℕ) → ReadsOffsets c n bits (Ok places) → (e : ReadError OffsetWord R)
+    → OfFault e (λ w. ReadsOffsets c n bits (Err w)) → OfFault e (λ w. ⊥)
+none_refused c coded n bits places good e bad = fault_weaker e _ _ (never c coded n bits places good) bad
 
 -- ---- the words stand in the file
 
@@ -110,8 +110,9 @@ place_of s w file places x at before code count coded le h read =
     let here : WordsStand s.code file (x + 1) at w.offset before = read_as _ _ file _ _ _ _ _ _ before code count refl refl read in
     sym (place_at s.code coded s.pages file places h.reads x at w.offset before here le)
 
-pub never_refused : {R : Type 0} (s : Sampled) (c : Code) (n : ℕ) (file : List Bool) (places : List ℕ) (e : WordError R) → c ≡ s.code → n ≡ s.pages → IsCode s.code → IsSampleOf file s places
-    → OfWord e (λ w. ReadsOffsets c n file (Err w)) → OfWord e (λ w. ⊥)
+pub never_refused : {R : Type 0} (s : Sampled) (c : Code) (n : ℕ) (file : List Bool) (places : List ℕ) (e : ReadError OffsetWord R) → c ≡ s.code → n ≡ s.pages → IsCode s.code
+    → IsSampleOf file s places
+    → OfFault e (λ w. ReadsOffsets c n file (Err w)) → OfFault e (λ w. ⊥)
 never_refused s c n file places e code pages coded h bad =
     none_refused s.code coded s.pages file places h.reads e
-    (subst (λ (k : ℕ). OfWord e (λ w. ReadsOffsets s.code k file (Err w))) pages (subst (λ (d : Code). OfWord e (λ w. ReadsOffsets d n file (Err w))) code bad))
+    (subst (λ (k : ℕ). OfFault e (λ w. ReadsOffsets s.code k file (Err w))) pages (subst (λ (d : Code). OfFault e (λ w. ReadsOffsets d n file (Err w))) code bad))

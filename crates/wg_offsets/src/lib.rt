@@ -50,7 +50,7 @@ mod reading;
 mod samples;
 
 pub use comparing::Comparison;
-pub use error::{OffsetsError, PlacesError, WordError};
+pub use error::OffsetsError;
 pub use offset_words::OffsetWords;
 pub use places::{MOST_PLACE, Offsets};
 pub use reading::read;

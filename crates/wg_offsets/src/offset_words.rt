@@ -4,14 +4,14 @@ ghost use Rattle.wg_params.specs.declared.limits.TheConstants.{MOST_PAGES};
 ghost use Rattle.wg_params.specs.Codes.{IsCode, is_gamma_or_delta};
 ghost use Rattle.wg_codes.specs.declared.outcome.Read.TheVariants as reads;
 ghost use Rattle.wg_offsets.specs.declared.places.TheConstants.{MOST_PLACE};
-ghost use Rattle.wg_offsets.specs.Errors.{OnWord, OnRefusal};
+ghost use Rattle.wg_grammar.specs.Errors.{OnFault, OnRefusal, WantsNoMemory};
 ghost use Rattle.wg_offsets.specs.Words.{refusal, ReadsOffsets};
 ghost use Rattle.wg_offsets.specs.Stages.{AreRead, LeadsBy};
 
-use crate::{MOST_PLACE, WordError};
+use crate::MOST_PLACE;
 use std::marker::Model;
 use wg_codes::Read;
-use wg_grammar::{OffsetWord, Source};
+use wg_grammar::{OffsetWord, ReadError, Source};
 use wg_params::Code;
 
 /// Reads the words of an offsets file, one for each record and one more: each leads from the offset of a record to that
@@ -107,7 +107,10 @@ impl OffsetWords {
     /// Reads the word that comes next, and answers the offset that it leads to. If it is refused, it stays before this
     /// word.
     #[inline(always)]
-    pub fn next<S: Source>(&mut self, source: &mut S) -> Result<u64, WordError<S::Refusal>>
+    pub fn next<S: Source>(
+        &mut self,
+        source: &mut S,
+    ) -> Result<u64, ReadError<OffsetWord, S::Refusal>>
         requires more { self.old.count ≤ self.old.pages }
         ensures code { self.new.code ≡ self.old.code }
         ensures pages { self.new.pages ≡ self.old.pages }
@@ -118,17 +121,18 @@ impl OffsetWords {
         ensures onward { self.old.offset ≤ self.new.offset }
         ensures err { OnErr result (self.new ≡ self.old) }
         ensures later { S.later source.old source.new }
+        ensures no_memory { WantsNoMemory result }
         ensures refused { OnRefusal result (S.caused source.old source.new) }
         ensures reads { (bits : List Bool) (places : List ℕ) → S.reads_from source.old bits
             → AreRead bits self.old (S.offset source.old) places
             → OnOk result (AreRead bits self.new (S.offset source.new) (places ++ self.new.offset ∷ [])) }
         ensures fault { (bits : List Bool) (places : List ℕ) → S.reads_from source.old bits
             → AreRead bits self.old (S.offset source.old) places
-            → OnWord result (λ w. ReadsOffsets self.old.code self.old.pages bits (Err w)) }
+            → OnFault result (λ w. ReadsOffsets self.old.code self.old.pages bits (Err w)) }
     {
         let read = match source.read(self.code) {
             Ok(read) => read,
-            Err(refusal) => return Err(WordError::Refused(refusal)),
+            Err(refusal) => return Err(ReadError::Refused(refusal)),
         };
         let offset = lead(self.count, self.offset, read)?;
         self.count += 1;
@@ -137,21 +141,22 @@ impl OffsetWords {
     }
 
     /// Validates the tail that follows the words.
-    pub fn finish<S: Source>(&self, source: &mut S) -> Result<(), WordError<S::Refusal>>
+    pub fn finish<S: Source>(&self, source: &mut S) -> Result<(), ReadError<OffsetWord, S::Refusal>>
         requires done { self.now.count ≡ self.now.pages + 1 }
         ensures later { S.later source.old source.new }
+        ensures no_memory { WantsNoMemory result }
         ensures refused { OnRefusal result (S.caused source.old source.new) }
         ensures reads { (bits : List Bool) (places : List ℕ) → S.reads_from source.old bits
             → AreRead bits self.now (S.offset source.old) places
             → OnOk result (ReadsOffsets self.now.code self.now.pages bits (Ok places)) }
         ensures fault { (bits : List Bool) (places : List ℕ) → S.reads_from source.old bits
             → AreRead bits self.now (S.offset source.old) places
-            → OnWord result (λ w. ReadsOffsets self.now.code self.now.pages bits (Err w)) }
+            → OnFault result (λ w. ReadsOffsets self.now.code self.now.pages bits (Err w)) }
     {
         match source.tail_fault() {
             Ok(None) => Ok(()),
-            Ok(Some(at)) => Err(WordError::Word(OffsetWord::Tail(at))),
-            Err(refusal) => Err(WordError::Refused(refusal)),
+            Ok(Some(at)) => Err(ReadError::Fault(OffsetWord::Tail(at))),
+            Err(refusal) => Err(ReadError::Refused(refusal)),
         }
     }
 }

@@ -4,15 +4,16 @@ ghost use Rattle.wg_params.specs.declared.limits.TheConstants.{MOST_PAGES};
 ghost use Rattle.wg_params.specs.Codes.{is_gamma_or_delta};
 ghost use Rattle.wg_outside.specs.declared.limits.TheConstants.{MOST_BYTES};
 ghost use Rattle.wg_bits.specs.Bits.{bits_of};
-ghost use Rattle.wg_offsets.specs.Errors.{IfWordOf, IfRefusalOf, known_error};
+ghost use Rattle.wg_grammar.specs.Errors.{OnFault, OnRefusal};
+ghost use Rattle.wg_offsets.specs.Errors.{known_error};
 ghost use Rattle.wg_offsets.specs.Words.{ReadsOffsets};
 ghost use Rattle.wg_offsets.specs.Stages.{IfWord};
 
-use crate::{OffsetWords, Offsets, OffsetsError, PlacesError};
+use crate::{OffsetWords, Offsets, OffsetsError};
 use std::alloc::Global;
 use std::convert::Infallible;
 use wg_bits::{Bits, Cursor};
-use wg_grammar::Source;
+use wg_grammar::{OffsetWord, ReadError, Source};
 use wg_params::Code;
 
 /// Reads the places of `n` records, whose offsets file these bytes are. It takes one pass, and 8 bytes of memory for
@@ -33,13 +34,13 @@ pub fn read(alloc: Global, bytes: &[u8], n: u64, code: Code) -> Result<Offsets, 
 }
 
 // Why bits in memory were not read. They refuse no word.
-fn error_of(error: PlacesError<Infallible>) -> OffsetsError
+fn error_of(error: ReadError<OffsetWord, Infallible>) -> OffsetsError
     ensures { result ≡ known_error error }
 {
     match error {
-        PlacesError::Word(word) => OffsetsError::Word(word),
-        PlacesError::Memory => OffsetsError::Memory,
-        PlacesError::Refused(never) => match never {},
+        ReadError::Fault(word) => OffsetsError::Word(word),
+        ReadError::Memory => OffsetsError::Memory,
+        ReadError::Refused(never) => match never {},
     }
 }
 
@@ -49,17 +50,17 @@ pub(crate) fn read_from<S: Source>(
     source: &mut S,
     n: u64,
     code: Code,
-) -> Result<Offsets, PlacesError<S::Refusal>>
+) -> Result<Offsets, ReadError<OffsetWord, S::Refusal>>
     requires start { S.offset source.old ≡ 0 }
     requires pages { n ≤ MOST_PAGES }
     requires code { is_gamma_or_delta code ≡ true }
     ensures count { IfOk result (λ places. length places ≡ n + 1) }
     ensures later { S.later source.old source.new }
-    ensures refused { IfErr result (λ e. IfRefusalOf e (S.caused source.old source.new)) }
+    ensures refused { OnRefusal result (S.caused source.old source.new) }
     ensures reads { (bits : List Bool) → S.reads_from source.old bits
         → IfOk result (λ places. ReadsOffsets code n bits (Ok places)) }
     ensures fault { (bits : List Bool) → S.reads_from source.old bits
-        → IfErr result (λ e. IfWordOf e (λ w. ReadsOffsets code n bits (Err w))) }
+        → OnFault result (λ w. ReadsOffsets code n bits (Err w)) }
 {
     let mut words = OffsetWords::new(n, code);
     let mut offsets = Offsets::new(alloc);

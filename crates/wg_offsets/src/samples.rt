@@ -1,19 +1,19 @@
 //! The places of some pages, from which those of all others are found.
-ghost use Rattle.std.specs.Prelude.{◌≡◌, ℕ, ◌+◌, ◌-◌, ◌*◌, ◌/◌, ◌<◌, ◌≤◌, true, All, Bool, List, length, get_or, Err, OnOk, IfOk, IfErr};
+ghost use Rattle.std.specs.Prelude.{◌≡◌, ℕ, ◌+◌, ◌-◌, ◌*◌, ◌/◌, ◌<◌, ◌≤◌, true, All, Bool, List, length, get_or, Err, OnOk, IfOk};
 ghost use Rattle.wg_params.specs.declared.limits.TheConstants.{MOST_PAGES};
 ghost use Rattle.wg_params.specs.declared.code.Code.{Code};
 ghost use Rattle.wg_params.specs.Codes.{IsCode, is_gamma_or_delta};
 ghost use Rattle.wg_offsets.specs.declared.places.TheConstants.{MOST_PLACE};
 ghost use Rattle.wg_offsets.specs.declared.samples.TheConstants.{SAMPLED};
-ghost use Rattle.wg_offsets.specs.Errors.{IfWordOf, IfRefusalOf, OnWord, OnRefusal};
+ghost use Rattle.wg_grammar.specs.Errors.{OnFault, OnRefusal, WantsNoMemory};
 ghost use Rattle.wg_offsets.specs.Words.{ReadsOffsets};
 ghost use Rattle.wg_offsets.specs.Stages.{WordsStand, AreRead};
 ghost use Rattle.wg_offsets.specs.Sampling.{AreSamples, IsSampleOf, bit_before};
 
-use crate::{OffsetWords, PlacesError, WordError};
+use crate::OffsetWords;
 use std::alloc::{AllocError, Global};
 use std::marker::Model;
-use wg_grammar::Source;
+use wg_grammar::{OffsetWord, ReadError, Source};
 use wg_params::Code;
 
 /// One page of so many has its place kept.
@@ -101,19 +101,20 @@ fn read_more<S: Source>(
     words: &mut OffsetWords,
     more: u64,
     source: &mut S,
-) -> Result<(), WordError<S::Refusal>>
+) -> Result<(), ReadError<OffsetWord, S::Refusal>>
     requires { words.old.count + more ≤ words.old.pages + 1 }
     ensures code { words.new.code ≡ words.old.code }
     ensures pages { words.new.pages ≡ words.old.pages }
     ensures count { OnOk result (words.new.count ≡ words.old.count + more) }
     ensures later { S.later source.old source.new }
+    ensures no_memory { WantsNoMemory result }
     ensures refused { OnRefusal result (S.caused source.old source.new) }
     ensures reads { (bits : List Bool) (before : List ℕ) → S.reads_from source.old bits
         → AreRead bits words.old (S.offset source.old) before
         → OnOk result ((all : List ℕ) × AreRead bits words.new (S.offset source.new) all) }
     ensures fault { (bits : List Bool) (before : List ℕ) → S.reads_from source.old bits
         → AreRead bits words.old (S.offset source.old) before
-        → OnWord result (λ w. ReadsOffsets words.old.code words.old.pages bits (Err w)) }
+        → OnFault result (λ w. ReadsOffsets words.old.code words.old.pages bits (Err w)) }
 {
     for _word in 0..more {
         words.next(source)?;
@@ -129,18 +130,18 @@ impl Samples {
         source: &mut S,
         pages: u64,
         code: Code,
-    ) -> Result<Samples, PlacesError<S::Refusal>>
+    ) -> Result<Samples, ReadError<OffsetWord, S::Refusal>>
         requires start { S.offset source.old ≡ 0 }
         requires pages { pages ≤ MOST_PAGES }
         requires code { is_gamma_or_delta code ≡ true }
         ensures pages { IfOk result (λ s. s.pages ≡ pages) }
         ensures code { IfOk result (λ s. s.code ≡ code) }
         ensures later { S.later source.old source.new }
-        ensures refused { IfErr result (λ e. IfRefusalOf e (S.caused source.old source.new)) }
+        ensures refused { OnRefusal result (S.caused source.old source.new) }
         ensures reads { (bits : List Bool) → S.reads_from source.old bits
             → IfOk result (λ s. (places : List ℕ) × IsSampleOf bits s places) }
         ensures fault { (bits : List Bool) → S.reads_from source.old bits
-            → IfErr result (λ e. IfWordOf e (λ w. ReadsOffsets code pages bits (Err w))) }
+            → OnFault result (λ w. ReadsOffsets code pages bits (Err w)) }
     {
         let mut words = OffsetWords::new(pages, code);
         let mut places = Vec::new(alloc);
@@ -197,17 +198,18 @@ impl Samples {
         &self,
         page: u64,
         source: &mut S,
-    ) -> Result<Extent, WordError<S::Refusal>>
+    ) -> Result<Extent, ReadError<OffsetWord, S::Refusal>>
         requires page { page < self.now.pages }
         requires at { S.offset source.old ≡ bit_before self.now page }
         ensures onward { IfOk result (λ e. e.start ≤ e.end) }
         ensures later { S.later source.old source.new }
+        ensures no_memory { WantsNoMemory result }
         ensures refused { OnRefusal result (S.caused source.old source.new) }
         ensures lies { (file : List Bool) (places : List ℕ) → S.reads_from source.old file
             → IsSampleOf file self.now places
             → IfOk result (λ e. (e.start ≡ get_or places page 0) × (e.end ≡ get_or places (page + 1) 0)) }
         ensures right { (file : List Bool) (places : List ℕ) → S.reads_from source.old file
-            → IsSampleOf file self.now places → OnWord result (λ w. ⊥) }
+            → IsSampleOf file self.now places → OnFault result (λ w. ⊥) }
     {
         let mut reading = self.words(page);
         read_more(&mut reading, page % SAMPLED, source)?;

@@ -21,9 +21,9 @@ use Rattle.wg_grammar.specs.Context.{Known, Context, no_page}
 use Rattle.wg_grammar.specs.Record.{Whole, ReadsRecord}
 use Rattle.wg_decoder.specs.Apart.{page_over, HeadStands, HeadFails}
 use Rattle.wg_decoder.proofs.HeadLemmas.{head_refused}
-use Rattle.wg_stream.specs.declared.error.PagesError.{PagesError}
-use Rattle.wg_stream.specs.declared.error.PagesError.TheVariants as pages
-use Rattle.wg_stream.specs.Errors.{OfFault, OnFault}
+use Rattle.wg_grammar.specs.declared.error.ReadError.{ReadError}
+use Rattle.wg_grammar.specs.declared.error.ReadError.TheVariants as pages
+use Rattle.wg_grammar.specs.Errors.{OfFault, OnFault}
 use Rattle.wg_decoder.specs.Chains.{endless, start_of, HeadReads, RecordReads, RefersTo, OverReads, ChainReads, IsChain, IsHeadFault}
 use Rattle.wg_random.specs.Spot.{ChainAnswers}
 use Rattle.wg_random.proofs.ChainLemmas.{pushed_length}
@@ -178,7 +178,7 @@ pub cut_short : (p : Parameters) (bits : List Bool) (offsets : List ℕ) (x : �
 cut_short p bits offsets x chain from to h few = (chain, h, few)
 
 -- the head of the last page is refused, or memory ran out, or a word was refused
-pub head_error : {R : Type 0} (p : Parameters) (bits : List Bool) (offsets : List ℕ) (x : ℕ) (chain : List ℕ) (page from to : ℕ) (e : PagesError R)
+pub head_error : {R : Type 0} (p : Parameters) (bits : List Bool) (offsets : List ℕ) (x : ℕ) (chain : List ℕ) (page from to : ℕ) (e : ReadError ArchiveFault R)
     → IsChain p bits offsets x chain → get_or chain (length chain - 1) 0 ≡ page → to ≡ from + length chain →
     OfFault e (IsHeadFault p bits offsets page) → ChainAnswers {R = R} p bits offsets x from to (Err e)
 head_error p bits offsets x chain page from to (pages.Fault f) h here ticks bad =
@@ -190,7 +190,7 @@ head_error p bits offsets x chain page from to pages.Memory h here ticks bad = c
 head_error p bits offsets x chain page from to (pages.Refused r) h here ticks bad = cut_short p bits offsets x chain from to h (omega (arith, ticks))
 
 -- the answer, if all heads are right
-pub answer_of : {R : Type 0} (p : Parameters) (bits : List Bool) (offsets : List ℕ) (x : ℕ) (chain lent : List ℕ) (from to : ℕ) (result : Result (List ℕ) (PagesError R))
+pub answer_of : {R : Type 0} (p : Parameters) (bits : List Bool) (offsets : List ℕ) (x : ℕ) (chain lent : List ℕ) (from to : ℕ) (result : Result (List ℕ) (ReadError ArchiveFault R))
     → lent ≡ chain → IsChain p bits offsets x chain → to ≡ from + length chain →
     IfOk result (λ list. (k : Known) × ChainReads p bits offsets (get_or lent 0 0) (drop 1 lent) (Ok k) × (list ≡ k.list)) →
     OnFault result (λ f. ChainReads p bits offsets (get_or lent 0 0) (drop 1 lent) (Err f)) → ChainAnswers {R = R} p bits offsets x from to result

@@ -3,8 +3,9 @@ use Rattle.std.specs.Prelude.{◌≡◌, ℕ, ◌+◌, ◌-◌, ◌<◌, ◌≤�
 use Rattle.wg_params.specs.Parameters.{Parameters}
 use Rattle.wg_grammar.specs.Context.{Known}
 use Rattle.wg_decoder.specs.Chains.{HeadReads, ChainReads, IsChain}
-use Rattle.wg_stream.specs.declared.error.PagesError.{PagesError}
-use Rattle.wg_stream.specs.declared.error.PagesError.TheVariants.{Fault, Memory, Refused}
+use Rattle.wg_grammar.specs.declared.error.ReadError.{ReadError}
+use Rattle.wg_grammar.specs.declared.fault.ArchiveFault.{ArchiveFault}
+use Rattle.wg_grammar.specs.declared.error.ReadError.TheVariants.{Fault, Memory, Refused}
 use Rattle.wg_random.specs.declared.error.SpotError.{SpotError}
 use Rattle.wg_random.specs.declared.error.SpotError.TheVariants as errors
 
@@ -16,7 +17,8 @@ pub record IsWholeChain (p : Parameters) (bits : List Bool) (offsets : List ℕ)
 -- The list of page x, or why there is none: this is the fault of its chain, or memory ran out, or a word was
 -- refused. The count rises by one for each page of the chain, and by no more than that if the chain was not read to
 -- its end.
-abbrev pub ChainAnswers : {R : Type 0} → Parameters → List Bool → List ℕ → ℕ → ℕ → ℕ → Result (List ℕ) (PagesError R)
+abbrev pub ChainAnswers : {R : Type 0} → Parameters → List Bool → List ℕ → ℕ → ℕ → ℕ
+    → Result (List ℕ) (ReadError ArchiveFault R)
     → Type 0
 ChainAnswers p bits offsets x from to (Ok list) =
     (zs : List ℕ) × (k : Known) × ChainReads p bits offsets x zs (Ok k) × (list ≡ k.list) × (to ≡ from + length zs + 1)

@@ -4,7 +4,7 @@ ghost use Rattle.wg_outside.specs.declared.limits.TheConstants.{MOST_BYTES};
 ghost use Rattle.wg_bits.specs.Bits.{bits_of};
 ghost use Rattle.wg_grammar.specs.Context.{Known};
 ghost use Rattle.wg_decoder.specs.Chains.{ChainReads};
-ghost use Rattle.wg_stream.specs.Errors.{OnFault, OnRefusal};
+ghost use Rattle.wg_grammar.specs.Errors.{OnFault, OnRefusal};
 ghost use Rattle.wg_random.specs.Chain.{ArePages, Fall};
 ghost use Rattle.wg_random.specs.Spot.{ChainAnswers, IsWholeChain, SpotAnswers};
 
@@ -16,10 +16,10 @@ use std::mem::replace;
 use std::sync::ledger::Ledger;
 use wg_bits::{Bits, Cursor};
 use wg_decoder::Spares;
+use wg_grammar::{ArchiveFault, ReadError};
 use wg_graph::List;
 use wg_offsets::Offsets;
 use wg_params::Params;
-use wg_stream::PagesError;
 
 // Follows the references from page `x`, validates each head, and answers the pages of this chain, `x` first.
 fn chain<L: Ledger, S: Located>(
@@ -28,7 +28,7 @@ fn chain<L: Ledger, S: Located>(
     x: u64,
     source: &mut S,
     steps: &mut Steps<L>,
-) -> Result<List, PagesError<S::Refusal>>
+) -> Result<List, ReadError<ArchiveFault, S::Refusal>>
     requires many { S.records source.old ≡ params.now.nodes }
     requires page { x < params.now.nodes }
     ensures reached { S.reached source.old source.new }
@@ -65,7 +65,7 @@ fn climb<S: Located>(
     params: &Params,
     chain: &[u64],
     source: &mut S,
-) -> Result<List, PagesError<S::Refusal>>
+) -> Result<List, ReadError<ArchiveFault, S::Refusal>>
     requires many { S.records source.old ≡ params.now.nodes }
     requires some { 0 < length chain.now }
     requires pages { ArePages params.now.nodes chain.now (length chain.now - 1) }
@@ -113,7 +113,7 @@ pub fn spot_from<L: Ledger, S: Located>(
     page: u64,
     source: &mut S,
     steps: &mut Steps<L>,
-) -> Result<List, PagesError<S::Refusal>>
+) -> Result<List, ReadError<ArchiveFault, S::Refusal>>
     requires many { S.records source.old ≡ params.now.nodes }
     requires page { page < params.now.nodes }
     ensures reached { S.reached source.old source.new }
@@ -153,9 +153,9 @@ pub fn spot<L: Ledger>(
     match spot_from(alloc, params, page, &mut source, steps) {
         Ok(list) => Ok(list),
         Err(error) => match error {
-            PagesError::Fault(fault) => Err(SpotError::Archive(fault)),
-            PagesError::Memory => Err(SpotError::Memory),
-            PagesError::Refused(never) => match never {},
+            ReadError::Fault(fault) => Err(SpotError::Archive(fault)),
+            ReadError::Memory => Err(SpotError::Memory),
+            ReadError::Refused(never) => match never {},
         },
     }
 }

@@ -69,7 +69,7 @@
 //! A page that does not exist, a chain that is too long to be opened, and out of memory are answered by [`OpenError`]
 //! and [`ListError`]; there is no other reason, since the archive was checked. Why a file is no archive is reported by
 //! [`CheckError`] and [`ArchiveFault`](wg_grammar::ArchiveFault), and why a page of one that was not checked has no
-//! list by [`SpotError`], or by [`PagesError`](wg_stream::PagesError), which also tells why a word was refused.
+//! list by [`SpotError`], or by [`ReadError`](wg_grammar::ReadError), which also tells why a word was refused.
 //!
 //! Choices:
 //!

@@ -12,9 +12,10 @@ ghost use Rattle.wg_random.specs.Checking.{OfArchive};
 use crate::{Archive, CheckError};
 use std::alloc::{AllocError, Global};
 use std::marker::Model;
+use wg_grammar::ReadError;
 use wg_offsets::Offsets;
 use wg_params::Params;
-use wg_stream::{PagesError, Passed, Sweep, pass};
+use wg_stream::{Passed, Sweep, pass};
 
 /// The bits of a graph file that stand for one graph, and where their records are.
 ///
@@ -67,9 +68,9 @@ impl<'a> Records<'a> {
     {
         match pass(alloc, bytes, params) {
             Ok(found) => Ok(Records::of_pass(bytes, params, found)),
-            Err(PagesError::Fault(fault)) => Err(CheckError::Archive(fault)),
-            Err(PagesError::Memory) => Err(CheckError::Memory),
-            Err(PagesError::Refused(never)) => match never {},
+            Err(ReadError::Fault(fault)) => Err(CheckError::Archive(fault)),
+            Err(ReadError::Memory) => Err(CheckError::Memory),
+            Err(ReadError::Refused(never)) => match never {},
         }
     }
 

@@ -7,17 +7,19 @@ ghost use Rattle.wg_grammar.specs.declared.fault.ArchiveFault.{ArchiveFault};
 ghost use Rattle.wg_grammar.specs.Context.{Known};
 ghost use Rattle.wg_decoder.specs.Remembered.{known_of};
 ghost use Rattle.wg_decoder.specs.Chains.{start_of, HeadReads, RecordReads, IsHeadFault};
-ghost use Rattle.wg_stream.specs.Errors.{OnFault, OnRefusal};
+ghost use Rattle.wg_grammar.specs.Errors.{OnFault, OnRefusal};
 
 use crate::Located;
 use wg_decoder::{Decoded, Spares, decode_over, head_from};
-use wg_grammar::{ArchiveFault, Fault, Field, Kind};
+use wg_grammar::{ArchiveFault, Fault, Field, Kind, ReadError};
 use wg_offsets::Extent;
 use wg_params::Params;
-use wg_stream::PagesError;
 
 // Goes to the record of a page, and tells where it lies. If that begins past the last bit, its outdegree is cut.
-fn go_to_record<S: Located>(page: u64, source: &mut S) -> Result<Extent, PagesError<S::Refusal>>
+fn go_to_record<S: Located>(
+    page: u64,
+    source: &mut S,
+) -> Result<Extent, ReadError<ArchiveFault, S::Refusal>>
     requires { page < S.records source.old }
     ensures reached { S.reached source.old source.new }
     ensures refused { OnRefusal result (S.caused source.old source.new) }
@@ -36,17 +38,17 @@ fn go_to_record<S: Located>(page: u64, source: &mut S) -> Result<Extent, PagesEr
 {
     let extent = match source.extent(page) {
         Ok(extent) => extent,
-        Err(refusal) => return Err(PagesError::Refused(refusal)),
+        Err(refusal) => return Err(ReadError::Refused(refusal)),
     };
     match source.go_to(extent.start) {
         Ok(true) => Ok(extent),
-        Ok(false) => Err(PagesError::Fault(ArchiveFault::Record(Fault {
+        Ok(false) => Err(ReadError::Fault(ArchiveFault::Record(Fault {
             page,
             at: extent.start,
             field: Field::Outdegree,
             kind: Kind::Cut,
         }))),
-        Err(refusal) => Err(PagesError::Refused(refusal)),
+        Err(refusal) => Err(ReadError::Refused(refusal)),
     }
 }
 
@@ -55,7 +57,7 @@ pub fn reference<S: Located>(
     params: &Params,
     page: u64,
     source: &mut S,
-) -> Result<u64, PagesError<S::Refusal>>
+) -> Result<u64, ReadError<ArchiveFault, S::Refusal>>
     requires many { S.records source.old ≡ params.now.nodes }
     requires page { page < params.now.nodes }
     ensures reached { S.reached source.old source.new }
@@ -98,7 +100,7 @@ pub fn read_record<S: Located>(
     depth: u64,
     spares: &mut Spares,
     source: &mut S,
-) -> Result<Decoded, PagesError<S::Refusal>>
+) -> Result<Decoded, ReadError<ArchiveFault, S::Refusal>>
     requires many { S.records source.old ≡ params.now.nodes }
     requires page { page < params.now.nodes }
     requires ascends { Ascends 0 named.now }
@@ -122,6 +124,6 @@ pub fn read_record<S: Located>(
     let decoded = decode_over(params, page, 0, named, depth, spares, source)?;
     match compare(extent, page, source.at()) {
         Ok(()) => Ok(decoded),
-        Err(fault) => Err(PagesError::Fault(fault)),
+        Err(fault) => Err(ReadError::Fault(fault)),
     }
 }

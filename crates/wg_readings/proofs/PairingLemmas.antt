@@ -18,19 +18,17 @@ use Rattle.wg_grammar.specs.Archive.{Accepted, places_of}
 use Rattle.wg_grammar.specs.Record.{Whole}
 use Rattle.wg_offsets.specs.Places.{last_place}
 use Rattle.wg_grammar.specs.declared.fault.OffsetWord.{OffsetWord}
-use Rattle.wg_offsets.specs.Errors.{OfRefusal, OfWord, IfRefusalOf, IfWordOf}
-use Rattle.wg_offsets.specs.declared.error.PlacesError.{PlacesError}
-use Rattle.wg_offsets.specs.declared.error.PlacesError.TheVariants as unread
+use Rattle.wg_grammar.specs.Errors.{OfFault, OfRefusal}
+use Rattle.wg_grammar.specs.declared.error.ReadError.{ReadError}
 use Rattle.wg_offsets.specs.Words.{ReadsOffsets}
-use Rattle.wg_offsets.specs.declared.error.WordError.{WordError}
-use Rattle.wg_offsets.specs.declared.error.WordError.TheVariants as words
+use Rattle.wg_grammar.specs.declared.error.ReadError.TheVariants as words
 use Rattle.wg_source.specs.Held.{HeldBytes, IsHeldOf}
 use Rattle.wg_source.specs.Stepping.{Steps as StepsOn, HasCause as HasReadCause}
 use Rattle.wg_outcomes.specs.Answers.{Answers, Steps}
 use Rattle.wg_outcomes.specs.Causes.{IncreasedAt}
 use Rattle.wg_outcomes.specs.Judged.{Judged, status_of, with_lengths, with_offsets, offsets_then}
 use Rattle.wg_outcomes.specs.Promised.{IsBadFile}
-use Rattle.wg_readings.specs.Pairing.{ComesWith, EndsPairing, HasCome, IsAt, IsPaired, IsPairedWith, IsStopped, IsUnread, files_then, places_ending, status_at, word_ending}
+use Rattle.wg_readings.specs.Pairing.{ComesWith, EndsPairing, HasCome, IsAt, IsPaired, IsPairedWith, IsStopped, IsUnread, files_then, status_at, word_ending}
 use Rattle.wg_readings.specs.Finding.{IsOpenOn}
 use Rattle.wg_outcomes.specs.declared.ending.Ending.{Ending}
 use Rattle.wg_readings.specs.declared.pairing.Pairing.{Pairing}
@@ -70,39 +68,33 @@ module _ (told : Bool) (name : List ℕ) (files : Files) (old new : List ℕ →
         error_steps Offsets e (map.get files name) (none t) (λ file is. (cause.there t file is, cause.long t file is (some t file is))) (λ more. with_offsets r p more next);
   }
 
-  pub word_stopped : (e : WordError LoadError) → OfRefusal e (HasReadCause told name files old new h) → h.looked ≡ true → (IsTrue told → (file : List ℕ) × (map.get files name ≡ Some file))
-      → (IsTrue told → (file : List ℕ) → map.get files name ≡ Some file → IsHeldOf file h × OfWord e (λ w. ReadsOffsets p.offsets p.nodes (bits_of file) (Err w)))
-      → IsStopped told files old new p name (word_ending p.arcs e)
-  word_stopped (words.Refused e) cause looked found reads =
-      load_stopped e cause (λ t none. let f = found t in absurd (let no : None ≡ Some f.0 = sym none ∙ f.1 in cc)) (λ t file is. (reads t file is).0)
-  word_stopped (words.Word w) cause looked found reads = record {
-    only = inr (inr (archive.Offsets w, refl, refl, refl));
-    causes = λ names named. own_caused _ _ _ _ _ _ (BadArchive (archive.Offsets w)) tt;
-    refused = λ t limits r next.
-        let f = found t in
-        let k = reads t f.0 f.1 in
-        subst (λ (o : Option (List ℕ)). Answers (offsets_then r p o next) (BadArchive (archive.Offsets w))) (sym f.1) (word_steps r p limits w f.0 (k.0.short looked) k.1 next);
-  }
-
   -- a file that was found is there, and no longer than the limit
-  pub places_stopped : (e : PlacesError LoadError) → IfRefusalOf e (HasReadCause told name files old new h) → (IsTrue told → IsOpenOn (map.get files name) h)
-      → (IsTrue told → (file : List ℕ) → map.get files name ≡ Some file → IsHeldOf file h → IfWordOf e (λ w. ReadsOffsets p.offsets p.nodes (bits_of file) (Err w)))
-      → IsStopped told files old new p name (places_ending p.arcs e)
-  places_stopped (unread.Refused e) cause open_on reads =
+  pub word_stopped : (e : ReadError OffsetWord LoadError) → OfRefusal e (HasReadCause told name files old new h) → (IsTrue told → IsOpenOn (map.get files name) h)
+      → (IsTrue told → (file : List ℕ) → map.get files name ≡ Some file → IsHeldOf file h → OfFault e (λ w. ReadsOffsets p.offsets p.nodes (bits_of file) (Err w)))
+      → IsStopped told files old new p name (word_ending p.arcs e)
+  word_stopped (words.Refused e) cause open_on reads =
       load_stopped e cause (λ t none. let o = open_on t in absurd (let no : None ≡ Some o.file = sym none ∙ o.is in cc))
       (λ t file is. let o = open_on t in let one : o.file ≡ file = cc (o.is, is) in subst (λ (f : List ℕ). IsHeldOf f h) one o.held)
-  places_stopped (unread.Word w) cause open_on reads = record {
+  word_stopped (words.Fault w) cause open_on reads = record {
     only = inr (inr (archive.Offsets w, refl, refl, refl));
     causes = λ names named. own_caused _ _ _ _ _ _ (BadArchive (archive.Offsets w)) tt;
     refused = λ t limits r next.
         let o = open_on t in
         subst (λ (x : Option (List ℕ)). Answers (offsets_then r p x next) (BadArchive (archive.Offsets w))) (sym o.is) (word_steps r p limits w o.file o.short (reads t o.file o.is o.held) next);
   }
-  places_stopped unread.Memory cause open_on reads = record {
+  word_stopped words.Memory cause open_on reads = record {
     only = inl (inl refl);
     causes = λ names named. own_caused _ _ _ _ _ _ Memory tt;
     refused = λ t limits r next. inr tt;
   }
+
+  -- the same of a file that was looked for
+  pub word_stopped_on : (e : ReadError OffsetWord LoadError) → OfRefusal e (HasReadCause told name files old new h) → h.looked ≡ true
+      → (IsTrue told → (file : List ℕ) × (map.get files name ≡ Some file))
+      → (IsTrue told → (file : List ℕ) → map.get files name ≡ Some file → IsHeldOf file h × OfFault e (λ w. ReadsOffsets p.offsets p.nodes (bits_of file) (Err w)))
+      → IsStopped told files old new p name (word_ending p.arcs e)
+  word_stopped_on e cause looked found reads =
+      word_stopped e cause (λ t. let f = found t in let k = (reads t f.0 f.1).0 in record { file = f.0; is = f.1; short = k.short looked; held = k }) (λ t file is held. (reads t file is).1)
 
 pub read_at : (bits : List Bool) (w : WordsRead) (a b : ℕ) (places : List ℕ) → a ≡ b → AreRead bits w a places → AreRead bits w b places
 read_at bits w a b places same h = rw same at h

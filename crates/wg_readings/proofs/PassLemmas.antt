@@ -11,12 +11,12 @@ use Rattle.wg_grammar.specs.declared.fault.ArchiveFault.TheVariants as archive
 use Rattle.wg_grammar.specs.Archive.{Accepted}
 use Rattle.wg_source.specs.Held.{HeldBytes}
 use Rattle.wg_source.specs.Stepping.{HasCause as HasReadCause}
-use Rattle.wg_stream.specs.declared.error.PagesError.{PagesError}
-use Rattle.wg_stream.specs.declared.error.PagesError.TheVariants as pages
+use Rattle.wg_grammar.specs.declared.error.ReadError.{ReadError}
+use Rattle.wg_grammar.specs.declared.error.ReadError.TheVariants as pages
 use Rattle.wg_stream.specs.declared.first.First.{First}
 use Rattle.wg_stream.specs.declared.state.State.{State}
 use Rattle.wg_stream.specs.declared.state.State.TheVariants.{Open}
-use Rattle.wg_stream.specs.Errors.{OfRefusal}
+use Rattle.wg_grammar.specs.Errors.{OfRefusal}
 use Rattle.wg_stream.specs.FirstError.{Says}
 use Rattle.wg_stream.specs.Reading.{Reading, AgreesIn, Goes, IsJudged}
 use Rattle.wg_stream.proofs.ErrorLemmas.{no_err}
@@ -45,12 +45,13 @@ of_graph n (archive.ArcsShort total) first is = inr (inr (archive.ArcsShort tota
 of_graph n (archive.Offsets w) first is = absurd is
 of_graph n (archive.Length page found stored) first is = absurd is
 
-only_at : (n : ℕ) (x : PagesError LoadError) (first : First) → Says x first → IsStopAt Graph n (ending_at n x)
+only_at : (n : ℕ) (x : ReadError ArchiveFault LoadError) (first : First) → Says x first → IsStopAt Graph n (ending_at n x)
 only_at n (pages.Fault f) first is = of_graph n f first is
 only_at n pages.Memory first is = inl (inl refl)
 only_at n (pages.Refused e) first is = inl (of_input Graph e)
 
-cause_at : (told : Bool) (name : List ℕ) (files : Files) (old new : List ℕ → Counts) (h : HeldBytes) (n : ℕ) (x : PagesError LoadError) → OfRefusal x (HasReadCause told name files old new h)
+cause_at : (told : Bool) (name : List ℕ) (files : Files) (old new : List ℕ → Counts) (h : HeldBytes) (n : ℕ) (x : ReadError ArchiveFault LoadError)
+    → OfRefusal x (HasReadCause told name files old new h)
     → (names : Input → Option (List ℕ)) → names Graph ≡ Some name → HasCause names no_outputs old new 0 0 (ending_at n x).status
 cause_at told name files old new h n (pages.Fault f) cause names named = own_caused _ _ _ _ _ _ (BadArchive f) tt
 cause_at told name files old new h n pages.Memory cause names named = own_caused _ _ _ _ _ _ Memory tt
@@ -61,7 +62,8 @@ module _ (r : Readings) (p : Parameters) (limits : IsWithinLimits p) where
   pub graph_goes : (held : Option (List ℕ)) (a : Accepted) → IsGraphFile held p a → (next : Accepted → Judged) → graph_then r p held next ≡ next a
   graph_goes held a h next = held_goes Graph held h.file h.is h.judged.short (λ bytes. with_graph r p bytes next) ∙ goes_on r p limits h.file a.graph a.places h.judged.reads next
 
-  fault_refuses : (held : Option (List ℕ)) (f : ArchiveFault) → (held ≡ None → ◌≡◌ {A = PagesError LoadError} (pages.Fault f) (pages.Refused load.Absent)) → ((file : List ℕ) → held ≡ Some file → IsJudged file p (Err f))
+  fault_refuses : (held : Option (List ℕ)) (f : ArchiveFault) → (held ≡ None → ◌≡◌ {A = ReadError ArchiveFault LoadError} (pages.Fault f) (pages.Refused load.Absent))
+      → ((file : List ℕ) → held ≡ Some file → IsJudged file p (Err f))
       → (next : Accepted → Judged) → Answers (graph_then r p held next) (BadArchive f)
   fault_refuses None f none some next = absurd (let no = none refl in cc)
   fault_refuses (Some file) f none some next =
@@ -76,14 +78,16 @@ found_after None false none found = absurd (none refl refl)
 found_after None true none found = found refl
 found_after (Some file) looked none found = (file, refl)
 
-absent_after : (o : Option (List ℕ)) (looked : Bool) (x : PagesError LoadError) → (o ≡ None → looked ≡ false → ◌≡◌ {A = Result (Unit {0}) (PagesError LoadError)} (Err x) (Err (pages.Refused load.Absent)))
+absent_after : (o : Option (List ℕ)) (looked : Bool) (x : ReadError ArchiveFault LoadError)
+    → (o ≡ None → looked ≡ false → ◌≡◌ {A = Result (Unit {0}) (ReadError ArchiveFault LoadError)} (Err x) (Err (pages.Refused load.Absent)))
     → (looked ≡ true → (file : List ℕ) × (o ≡ Some file)) → o ≡ None → x ≡ pages.Refused load.Absent
-absent_after o false x none found is = let e : ◌≡◌ {A = Result (Unit {0}) (PagesError LoadError)} (Err x) (Err (pages.Refused load.Absent)) = none is refl in cc
+absent_after o false x none found is = let e : ◌≡◌ {A = Result (Unit {0}) (ReadError ArchiveFault LoadError)} (Err x) (Err (pages.Refused load.Absent)) = none is refl in cc
 absent_after o true x none found is = let k = found refl in absurd (let no : None ≡ Some k.0 = sym is ∙ k.1 in cc)
 
 module _ (told : Bool) (files files' : Files) (counts counts' : List ℕ → Counts) (p : Parameters) (a b : Reading) (going : a.state ≡ Open) (same : a.pages.params ≡ p) where
   module _ (t : IsTrue told) (limits : IsWithinLimits p) (found : IsFound files a) (follows : FollowsFile files a) (r : Readings) where
-    refuses : (x : PagesError LoadError) → Goes told files files' counts counts' a b (Err x) → (next : Accepted → Judged) → Answers (graph_then r p (map.get files a.name) next) (ending_at p.arcs x).status
+    refuses : (x : ReadError ArchiveFault LoadError) → Goes told files files' counts counts' a b (Err x) → (next : Accepted → Judged)
+        → Answers (graph_then r p (map.get files a.name) next) (ending_at p.arcs x).status
     refuses pages.Memory g next = inr tt
     refuses (pages.Fault f) g next =
         fault_refuses r p limits (map.get files a.name) f (absent_after _ a.held.looked (pages.Fault f) (g.absent t) found)
@@ -97,7 +101,8 @@ module _ (told : Bool) (files files' : Files) (counts counts' : List ℕ → Cou
         (g.cause.there t file is, g.cause.long t file is read.held)) (λ bytes. with_graph r p bytes next)
 
   -- an error ends the job
-  pub stops : (x : PagesError LoadError) (e : Ending) → e ≡ ending_at p.arcs x → Goes told files files' counts counts' a b (Err x) → Advances {B = Unit {0}} told files files' counts counts' p a b (Err e)
+  pub stops : (x : ReadError ArchiveFault LoadError) (e : Ending) → e ≡ ending_at p.arcs x → Goes told files files' counts counts' a b (Err x)
+      → Advances {B = Unit {0}} told files files' counts counts' p a b (Err e)
   stops x e is g = subst (λ (y : Ending). Advances {B = Unit {0}} told files files' counts counts' p a b (Err y)) (sym is)
       (record {
         params = g.params;

@@ -9,10 +9,9 @@ use Rattle.wg_grammar.specs.declared.fault.ArchiveFault.TheVariants as archive
 use Rattle.wg_offsets.specs.Comparing.{AreCompared}
 use Rattle.wg_offsets.specs.Places.{last_place}
 use Rattle.wg_offsets.specs.Stages.{AreRead}
-use Rattle.wg_offsets.specs.declared.error.WordError.{WordError}
-use Rattle.wg_offsets.specs.declared.error.WordError.TheVariants as words
-use Rattle.wg_offsets.specs.declared.error.PlacesError.{PlacesError}
-use Rattle.wg_offsets.specs.declared.error.PlacesError.TheVariants as unread
+use Rattle.wg_grammar.specs.declared.error.ReadError.{ReadError}
+use Rattle.wg_grammar.specs.declared.fault.OffsetWord.{OffsetWord}
+use Rattle.wg_grammar.specs.declared.error.ReadError.TheVariants as words
 use Rattle.wg_source.specs.Held.{IsHeldOf}
 use Rattle.wg_outcomes.specs.Answers.{Steps, status_in}
 use Rattle.wg_outcomes.specs.Causes.{HasCause}
@@ -29,15 +28,10 @@ use Rattle.wg_outcomes.specs.declared.status.Input.TheVariants as input
 use Rattle.wg_outcomes.specs.declared.status.Status.TheVariants.{Memory, BadArchive}
 
 -- how a job ends whose offsets file is not read on: at a word, if the properties promise so many arcs, or at its input
-abbrev pub word_ending : ℕ → WordError LoadError → Ending
-word_ending promised (words.Word w) = record { status = BadArchive (archive.Offsets w); promised = promised }
+abbrev pub word_ending : ℕ → ReadError OffsetWord LoadError → Ending
+word_ending promised (words.Fault w) = record { status = BadArchive (archive.Offsets w); promised = promised }
+word_ending promised words.Memory = record { status = Memory; promised = 0 }
 word_ending promised (words.Refused e) = record { status = status_at input.Offsets e; promised = 0 }
-
--- how it ends if the file was not read to its end
-abbrev pub places_ending : ℕ → PlacesError LoadError → Ending
-places_ending promised (unread.Word w) = word_ending promised (words.Word w)
-places_ending promised (unread.Refused e) = word_ending promised (words.Refused e)
-places_ending promised unread.Memory = record { status = Memory; promised = 0 }
 
 -- before the first word
 pub record IsUnread (p : Parameters) (b : Pairing) : Type 0 where

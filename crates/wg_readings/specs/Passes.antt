@@ -8,8 +8,9 @@ use Rattle.wg_outside.specs.declared.suffixes.TheConstants.{GRAPH}
 use Rattle.wg_params.specs.Parameters.{Parameters, IsWithinLimits}
 use Rattle.wg_grammar.specs.Archive.{Accepted, lists_of, places_of}
 use Rattle.wg_grammar.specs.Record.{Whole}
-use Rattle.wg_stream.specs.declared.error.PagesError.{PagesError}
-use Rattle.wg_stream.specs.declared.error.PagesError.TheVariants as pages
+use Rattle.wg_grammar.specs.declared.error.ReadError.{ReadError}
+use Rattle.wg_grammar.specs.declared.fault.ArchiveFault.{ArchiveFault}
+use Rattle.wg_grammar.specs.declared.error.ReadError.TheVariants as pages
 use Rattle.wg_stream.specs.declared.state.State.TheVariants.{Open}
 use Rattle.wg_stream.specs.Reading.{Reading, IsInStep, IsJudged}
 use Rattle.wg_outcomes.specs.Answers.{Steps, status_in}
@@ -46,7 +47,7 @@ status_at i load.TooLong = OverLimit i
 status_at i load.Memory = Memory
 
 -- how a job ends whose graph file is not read on, if the properties promise so many arcs
-abbrev pub ending_at : ℕ → PagesError LoadError → Ending
+abbrev pub ending_at : ℕ → ReadError ArchiveFault LoadError → Ending
 ending_at promised (pages.Fault f) = record { status = BadArchive f; promised = promised }
 ending_at promised pages.Memory = record { status = Memory; promised = 0 }
 ending_at promised (pages.Refused e) = record { status = status_at input.Graph e; promised = 0 }

@@ -10,7 +10,7 @@ ghost use Rattle.wg_grammar.specs.Archive.{Accepted, ReadsGraph};
 ghost use Rattle.wg_graph.specs.Digraph.{Digraph, arc_count};
 ghost use Rattle.wg_graph.specs.Numbers.{is_in};
 ghost use Rattle.wg_grammar.specs.declared.fault.ArchiveFault.{ArchiveFault};
-ghost use Rattle.wg_stream.specs.Errors.{OfFault};
+ghost use Rattle.wg_grammar.specs.Errors.{OfFault};
 ghost use Rattle.wg_stream.specs.Sweeping.{PassFinds};
 ghost use Rattle.wg_outcomes.specs.Answers.{Steps};
 ghost use Rattle.wg_outcomes.specs.Judged.{with_parameters, with_digraph, with_graph, with_pages};
@@ -20,11 +20,11 @@ ghost use Rattle.wg_outcomes.specs.Readings.{Readings};
 use std::alloc::Global;
 use std::convert::Infallible;
 use wg_bits::{Bits, Cursor};
-use wg_grammar::ArchiveFault;
+use wg_grammar::{ArchiveFault, ReadError};
 use wg_graph::Graph;
 use wg_outcomes::{Ending, Input, Status};
 use wg_params::Params;
-use wg_stream::{PagesError, Passed, Sweep, pass, read_graph};
+use wg_stream::{Passed, Sweep, pass, read_graph};
 
 /// The parameters that a properties text gives.
 pub fn parameters(text: &[u8]) -> Result<Params, Ending>
@@ -62,7 +62,7 @@ pub fn bad_archive(fault: ArchiveFault, params: &Params) -> Ending
 }
 
 /// How a job ends whose graph file is not in order, or that is out of memory.
-pub fn graph_ending(error: PagesError<Infallible>, params: &Params) -> Ending
+pub fn graph_ending(error: ReadError<ArchiveFault, Infallible>, params: &Params) -> Ending
     ensures refused { IsWithinLimits params.now → (r : Readings) (bytes : List ℕ)
         → OfFault error (λ f. ReadsGraph params.now (bits_of bytes) (Err f))
         → Steps {B = Accepted} (with_graph r params.now bytes) (Err result) }
@@ -70,9 +70,9 @@ pub fn graph_ending(error: PagesError<Infallible>, params: &Params) -> Ending
         → IsBadFile Input.Graph params.now.arcs result }
 {
     match error {
-        PagesError::Fault(fault) => bad_archive(fault, params),
-        PagesError::Memory => Ending::of(Status::Memory),
-        PagesError::Refused(never) => match never {},
+        ReadError::Fault(fault) => bad_archive(fault, params),
+        ReadError::Memory => Ending::of(Status::Memory),
+        ReadError::Refused(never) => match never {},
     }
 }
 

@@ -18,8 +18,8 @@ ghost use Rattle.wg_readings.specs.Pairing.{IsUnread, word_ending};
 
 use crate::lines::unread;
 use std::alloc::Global;
-use wg_grammar::ArchiveFault;
-use wg_offsets::{Comparison, OffsetWords, WordError};
+use wg_grammar::{ArchiveFault, OffsetWord, ReadError};
+use wg_offsets::{Comparison, OffsetWords};
 use wg_outcomes::{Ending, Input, Status};
 use wg_outside::{Depot, LoadError, OFFSETS};
 use wg_params::Params;
@@ -40,15 +40,16 @@ pub struct Pairing {
 /// How a job ends whose offsets file is not read on, at a word or at its input. It is inlined: an ending takes room in
 /// memory only if there is one.
 #[inline(always)]
-pub fn word_ending(error: WordError<LoadError>, params: &Params) -> Ending
+pub fn word_ending(error: ReadError<OffsetWord, LoadError>, params: &Params) -> Ending
     ensures { result ≡ word_ending params.now.arcs error }
 {
     match error {
-        WordError::Word(word) => Ending {
+        ReadError::Fault(word) => Ending {
             status: Status::BadArchive(ArchiveFault::Offsets(word)),
             promised: params.arcs(),
         },
-        WordError::Refused(error) => unread(error, Input::Offsets),
+        ReadError::Memory => Ending::of(Status::Memory),
+        ReadError::Refused(error) => unread(error, Input::Offsets),
     }
 }
 

@@ -12,22 +12,23 @@ ghost use Rattle.wg_readings.specs.Passes.{Advances, IsFresh, ending_at};
 use crate::archive::bad_archive;
 use crate::lines::unread;
 use std::alloc::Global;
+use wg_grammar::{ArchiveFault, ReadError};
 use wg_outcomes::{Ending, Input, Status};
 use wg_outside::{Depot, GRAPH, LoadError};
 use wg_params::Params;
-use wg_stream::{PagesError, Reader};
+use wg_stream::Reader;
 use wg_words::Name;
 
 // How a job ends whose graph file is not read on.
 #[cold]
 #[inline(never)]
-fn ending_at(error: PagesError<LoadError>, params: &Params) -> Ending
+fn ending_at(error: ReadError<ArchiveFault, LoadError>, params: &Params) -> Ending
     ensures { result ≡ ending_at params.now.arcs error }
 {
     match error {
-        PagesError::Fault(fault) => bad_archive(fault, params),
-        PagesError::Memory => Ending::of(Status::Memory),
-        PagesError::Refused(error) => unread(error, Input::Graph),
+        ReadError::Fault(fault) => bad_archive(fault, params),
+        ReadError::Memory => Ending::of(Status::Memory),
+        ReadError::Refused(error) => unread(error, Input::Graph),
     }
 }
 

@@ -10,8 +10,9 @@ use Rattle.wg_grammar.specs.Record.{Whole}
 use Rattle.wg_stream.specs.declared.state.State.{State}
 use Rattle.wg_stream.specs.declared.state.State.TheVariants.{Open, Done, Closed}
 use Rattle.wg_stream.specs.declared.first.First.{First}
-use Rattle.wg_stream.specs.declared.error.PagesError.{PagesError}
-use Rattle.wg_stream.specs.Errors.{OfFault, OfRefusal}
+use Rattle.wg_grammar.specs.declared.error.ReadError.{ReadError}
+use Rattle.wg_grammar.specs.declared.fault.ArchiveFault.{ArchiveFault}
+use Rattle.wg_grammar.specs.Errors.{OfFault, OfRefusal}
 use Rattle.wg_stream.specs.FirstError.{Says}
 use Rattle.wg_outside.specs.declared.whole.LoadError.{LoadError}
 use Rattle.wg_source.specs.Held.{HeldBytes, IsHeldOf}
@@ -19,7 +20,7 @@ use Rattle.wg_source.specs.Stepping.{Steps, HasCause}
 use Rattle.wg_source.specs.StepLaws.{later_cause, still_there, two_steps}
 use Rattle.wg_stream.specs.Prefix.{PagesRead, AreBehind, HoldsFew, IsOneMore}
 use Rattle.wg_stream.specs.Reading.{Reading, AgreesIn, Goes, IsInStep, IsJudged, IsSteady, Stands, StaysInStep}
-use Rattle.wg_stream.proofs.ErrorLemmas.{fault_weaker, refusal_weaker}
+use Rattle.wg_grammar.proofs.ErrorLemmas.{fault_weaker, refusal_weaker}
 
 -- what an open reading that is in step knows of the file: what it holds, and the records up to the next bit and up to
 -- the end of the last
@@ -62,7 +63,7 @@ module _ (told : Bool) (files files1 files2 : Files) (counts counts1 counts2 : L
         last = a.2;
       }
 
-  pub goes_wrong : (e : PagesError LoadError) → r.at ≡ at → (f : First) × Says e f × (state ≡ Closed f) → OfRefusal e (HasCause told r.name files1 counts1 counts2 h1)
+  pub goes_wrong : (e : ReadError ArchiveFault LoadError) → r.at ≡ at → (f : First) × Says e f × (state ≡ Closed f) → OfRefusal e (HasCause told r.name files1 counts1 counts2 h1)
       → (IsTrue told → (file : List ℕ) → map.get files1 r.name ≡ Some file → IsHeldOf file h1 → (whole : List Whole) → AreBehind (bits_of file) r.pages h1.at whole
       → OfFault e (λ f. ReadsGraph r.pages.params (bits_of file) (Err f))) → Goes told files files2 counts counts2 r after (Err e)
   goes_wrong e same closed cause fault = record {
@@ -108,6 +109,6 @@ module _ (told : Bool) (files files1 files2 : Files) (counts counts1 counts2 : L
       )
 
 -- how a reading goes on, of an equal depot
-pub goes_as : {D : Type 0} (told : Bool) (files : D → Files) (counts : D → List ℕ → Counts) (x y z : D) (a b : Reading) (e : Result (Unit {0}) (PagesError LoadError)) → y ≡ z
+pub goes_as : {D : Type 0} (told : Bool) (files : D → Files) (counts : D → List ℕ → Counts) (x y z : D) (a b : Reading) (e : Result (Unit {0}) (ReadError ArchiveFault LoadError)) → y ≡ z
     → Goes told (files x) (files y) (counts x) (counts y) a b e → Goes told (files x) (files z) (counts x) (counts z) a b e
 goes_as told files counts x y z a b e same h = subst (λ w. Goes told (files x) (files w) (counts x) (counts w) a b e) same h

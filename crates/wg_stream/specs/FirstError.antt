@@ -4,8 +4,8 @@ use Rattle.wg_outside.specs.declared.whole.LoadError.{LoadError}
 use Rattle.wg_outside.specs.declared.whole.LoadError.TheVariants as load
 use Rattle.wg_grammar.specs.declared.fault.ArchiveFault.{ArchiveFault}
 use Rattle.wg_grammar.specs.declared.fault.ArchiveFault.TheVariants as archive
-use Rattle.wg_stream.specs.declared.error.PagesError.{PagesError}
-use Rattle.wg_stream.specs.declared.error.PagesError.TheVariants.{Fault, Memory, Refused}
+use Rattle.wg_grammar.specs.declared.error.ReadError.{ReadError}
+use Rattle.wg_grammar.specs.declared.error.ReadError.TheVariants.{Fault, Memory, Refused}
 use Rattle.wg_stream.specs.declared.first.First.{First}
 use Rattle.wg_stream.specs.declared.first.First.TheVariants as first
 use Rattle.wg_stream.specs.declared.stream_error.StreamError.{StreamError}
@@ -26,7 +26,7 @@ Tells (archive.Offsets f) e = ⊥
 Tells (archive.Length page found stored) e = ⊥
 
 -- the error says why the records were not read to their end
-abbrev pub Says : PagesError LoadError → First → Type 0
+abbrev pub Says : ReadError ArchiveFault LoadError → First → Type 0
 Says (Fault f) e = Tells f e
 Says Memory e = e ≡ first.Memory
 Says (Refused l) e = e ≡ of_load l

@@ -10,13 +10,13 @@ use Rattle.wg_params.specs.Parameters.{Parameters}
 use Rattle.wg_grammar.specs.declared.fault.ArchiveFault.{ArchiveFault}
 use Rattle.wg_grammar.specs.Record.{Whole}
 use Rattle.wg_grammar.specs.Archive.{Accepted, ReadsGraph, lists_of, places_of}
-use Rattle.wg_stream.specs.declared.error.PagesError.{PagesError}
-use Rattle.wg_stream.specs.declared.error.PagesError.TheVariants.{Refused}
+use Rattle.wg_grammar.specs.declared.error.ReadError.{ReadError}
+use Rattle.wg_grammar.specs.declared.error.ReadError.TheVariants.{Refused}
 use Rattle.wg_stream.specs.declared.first.First.{First}
 use Rattle.wg_stream.specs.declared.state.State.{State}
 use Rattle.wg_stream.specs.declared.state.State.TheVariants.{Open, Done, Closed}
 use Rattle.wg_stream.specs.declared.stream_error.StreamError.{StreamError}
-use Rattle.wg_stream.specs.Errors.{OnFault, OnRefusal}
+use Rattle.wg_grammar.specs.Errors.{OnFault, OnRefusal}
 use Rattle.wg_stream.specs.FirstError.{OfGraph, Says}
 use Rattle.wg_source.specs.declared.stretch.TheConstants.{MOST_HELD}
 use Rattle.wg_source.specs.Held.{HeldBytes, IsHeldOf, IsSmall}
@@ -75,7 +75,7 @@ StaysInStep file r whole (Err e) = IsInStep file r whole
 
 -- A step of a reading that goes on: what stays as it is, what is held, and what an error tells.
 pub record Goes (told : Bool) (files files' : Files) (counts counts' : List ℕ → Counts) (old new : Reading)
-    (result : Result (Unit {0}) (PagesError LoadError)) : Type 0 where
+    (result : Result (Unit {0}) (ReadError ArchiveFault LoadError)) : Type 0 where
   pub params : new.pages.params ≡ old.pages.params
   pub name : new.name ≡ old.name
   pub onward : old.at ≤ new.at

@@ -55,7 +55,6 @@
 //!   the one that validates. *Revisit if* such archives come.
 #![tactic(auto)]
 
-mod error;
 mod first;
 mod pages;
 mod passed;
@@ -66,7 +65,6 @@ mod state;
 mod stream_error;
 mod sweep;
 
-pub use error::PagesError;
 pub use first::First;
 pub use pages::Pages;
 pub use passed::{Passed, pass};

@@ -6,16 +6,16 @@ ghost use Rattle.wg_grammar.specs.Record.{Whole};
 ghost use Rattle.wg_grammar.specs.Archive.{lists_of, places_of, ReadsGraph};
 ghost use Rattle.wg_decoder.specs.Remembered.{known_of};
 ghost use Rattle.wg_decoder.specs.Spare.{all_empty};
-ghost use Rattle.wg_stream.specs.Errors.{OnFault, OnRefusal, IsOfGraph};
+ghost use Rattle.wg_grammar.specs.Errors.{OnFault, OnRefusal};
+ghost use Rattle.wg_stream.specs.Errors.{IsOfGraph};
 ghost use Rattle.wg_stream.specs.Nearest.{nearest};
 ghost use Rattle.wg_stream.specs.Prefix.{AreBehind, AreShort, HoldsFew, IsOneMore};
 
-use crate::PagesError;
 use std::alloc::{AllocError, Global};
 use std::marker::Model;
 use std::mem;
 use wg_decoder::{Decoded, Spares, Window, decode_from};
-use wg_grammar::{ArchiveFault, Source};
+use wg_grammar::{ArchiveFault, ReadError, Source};
 use wg_graph::List;
 use wg_params::Params;
 
@@ -133,7 +133,10 @@ impl Pages {
     /// this page. Whatever the answer, no list that it holds is longer than there are pages. It takes time in
     /// proportion to the words of the record, to its list and to the one that it refers to.
     #[inline(always)]
-    pub fn next<S: Source>(&mut self, source: &mut S) -> Result<(), PagesError<S::Refusal>>
+    pub fn next<S: Source>(
+        &mut self,
+        source: &mut S,
+    ) -> Result<(), ReadError<ArchiveFault, S::Refusal>>
         requires more { self.old.page < self.old.params.nodes }
         ensures params { self.new.params ≡ self.old.params }
         ensures page { OnOk result (self.new.page ≡ self.old.page + 1) }
@@ -166,7 +169,10 @@ impl Pages {
     }
 
     /// Checks what follows the records: the tail, and whether there are as many arcs as are promised.
-    pub fn finish<S: Source>(&self, source: &mut S) -> Result<(), PagesError<S::Refusal>>
+    pub fn finish<S: Source>(
+        &self,
+        source: &mut S,
+    ) -> Result<(), ReadError<ArchiveFault, S::Refusal>>
         requires done { self.now.page ≡ self.now.params.nodes }
         ensures total { OnOk result (self.now.arcs ≡ self.now.params.arcs) }
         ensures graph { OnFault result IsOfGraph }
@@ -182,13 +188,13 @@ impl Pages {
     {
         let tail = match source.tail_fault() {
             Ok(tail) => tail,
-            Err(refusal) => return Err(PagesError::Refused(refusal)),
+            Err(refusal) => return Err(ReadError::Refused(refusal)),
         };
         if let Some(at) = tail {
-            return Err(PagesError::Fault(ArchiveFault::Tail(at)));
+            return Err(ReadError::Fault(ArchiveFault::Tail(at)));
         }
         if self.arcs < self.params.arcs() {
-            return Err(PagesError::Fault(ArchiveFault::ArcsShort(self.arcs)));
+            return Err(ReadError::Fault(ArchiveFault::ArcsShort(self.arcs)));
         }
         Ok(())
     }

@@ -3,14 +3,15 @@ ghost use Rattle.std.specs.Prelude.{◌≡◌, ◌≤◌, [], Err, IfOk, length}
 ghost use Rattle.wg_outside.specs.declared.limits.TheConstants.{MOST_BYTES};
 ghost use Rattle.wg_bits.specs.Bits.{bits_of};
 ghost use Rattle.wg_grammar.specs.Archive.{ReadsGraph};
-ghost use Rattle.wg_stream.specs.Errors.{OnFault};
+ghost use Rattle.wg_grammar.specs.Errors.{OnFault};
 ghost use Rattle.wg_stream.specs.Prefix.{AreBehind};
 ghost use Rattle.wg_stream.specs.Sweeping.{PassFinds};
 
-use crate::{Pages, PagesError};
+use crate::Pages;
 use std::alloc::Global;
 use std::convert::Infallible;
 use wg_bits::{Bits, Cursor};
+use wg_grammar::{ArchiveFault, ReadError};
 use wg_offsets::Offsets;
 use wg_params::Params;
 
@@ -25,7 +26,11 @@ pub struct Passed {
 
 /// Validates the records of all pages, the tail and the number of arcs. It takes the time of all bits and lists, holds
 /// the lists of a window while it runs, and takes 8 bytes a page, as the records come.
-pub fn pass(alloc: Global, bytes: &[u8], params: Params) -> Result<Passed, PagesError<Infallible>>
+pub fn pass(
+    alloc: Global,
+    bytes: &[u8],
+    params: Params,
+) -> Result<Passed, ReadError<ArchiveFault, Infallible>>
     requires { length bytes.now ≤ MOST_BYTES }
     ensures finds { IfOk result (λ found. PassFinds params (bits_of bytes.now) found.offsets found.greatest) }
     ensures fault { OnFault result (λ f. ReadsGraph params (bits_of bytes.now) (Err f)) }
@@ -45,7 +50,7 @@ fn pass_on(
     source: &mut Cursor<'_>,
     pages: &mut Pages,
     offsets: &mut Offsets,
-) -> Result<u64, PagesError<Infallible>>
+) -> Result<u64, ReadError<ArchiveFault, Infallible>>
     requires nodes { nodes ≡ pages.old.params.nodes }
     requires none { pages.old.page ≡ 0 }
     requires start { source.old.at ≡ 0 }

@@ -13,15 +13,16 @@ ghost use Rattle.wg_stream.specs.FirstError.{of_first, OfOutside, Says};
 ghost use Rattle.wg_stream.specs.Reading.{AgreesIn, Goes, IsInStep, StaysInStep};
 ghost use Rattle.wg_source.specs.Stepping.{HasCause};
 ghost use Rattle.wg_decoder.specs.Spare.{all_empty};
-ghost use Rattle.wg_stream.specs.Errors.{OfFault, IsOfGraph};
+ghost use Rattle.wg_grammar.specs.Errors.{OfFault};
+ghost use Rattle.wg_stream.specs.Errors.{IsOfGraph};
 ghost use Rattle.wg_stream.specs.Prefix.{HoldsFew};
 ghost use Rattle.wg_source.specs.declared.stretch.TheConstants.{MOST_HELD};
 
 use crate::state::State;
-use crate::{First, Pages, PagesError, StreamError};
+use crate::{First, Pages, StreamError};
 use std::alloc::{AllocError, Global};
 use std::marker::Model;
-use wg_grammar::ArchiveFault;
+use wg_grammar::{ArchiveFault, ReadError};
 use wg_outside::{Depot, LoadError};
 use wg_params::Params;
 use wg_source::{FileSource, Stretch};
@@ -68,23 +69,23 @@ impl Model for Reader {
 // The first error of a reading, as its later calls name it. The records and the tail have no fault of the offsets.
 #[cold]
 #[inline(never)]
-fn first_of(error: PagesError<LoadError>) -> First
+fn first_of(error: ReadError<ArchiveFault, LoadError>) -> First
     requires { OfFault error IsOfGraph }
     ensures { Says error result }
 {
     match error {
-        PagesError::Memory => First::Memory,
-        PagesError::Refused(error) => First::from(error),
-        PagesError::Fault(ArchiveFault::Record(fault)) => First::Fault(fault),
-        PagesError::Fault(ArchiveFault::Tail(at)) => First::Tail(at),
-        PagesError::Fault(ArchiveFault::ArcsShort(total)) => First::ArcsShort(total),
-        PagesError::Fault(ArchiveFault::Offsets(_word)) => unreachable!(),
-        PagesError::Fault(ArchiveFault::Length { .. }) => unreachable!(),
+        ReadError::Memory => First::Memory,
+        ReadError::Refused(error) => First::from(error),
+        ReadError::Fault(ArchiveFault::Record(fault)) => First::Fault(fault),
+        ReadError::Fault(ArchiveFault::Tail(at)) => First::Tail(at),
+        ReadError::Fault(ArchiveFault::ArcsShort(total)) => First::ArcsShort(total),
+        ReadError::Fault(ArchiveFault::Offsets(_word)) => unreachable!(),
+        ReadError::Fault(ArchiveFault::Length { .. }) => unreachable!(),
     }
 }
 
 // A reading after its first error.
-fn closed_by(error: PagesError<LoadError>) -> State
+fn closed_by(error: ReadError<ArchiveFault, LoadError>) -> State
     requires { OfFault error IsOfGraph }
     ensures { (f : First) × Says error f × (result ≡ Closed f) }
 {
@@ -138,7 +139,10 @@ impl Reader {
     /// Reads the record of the page that comes next, whose list is then that of [`list`](Reader::list). An error is the
     /// first one, and after it no more is read.
     #[inline(always)]
-    pub fn next_record<D: Depot>(&mut self, depot: &mut D) -> Result<(), PagesError<LoadError>>
+    pub fn next_record<D: Depot>(
+        &mut self,
+        depot: &mut D,
+    ) -> Result<(), ReadError<ArchiveFault, LoadError>>
         requires going { self.old.state ≡ Open }
         requires more { self.old.pages.page < self.old.pages.params.nodes }
         ensures goes { Goes D.told (D.files depot.old) (D.files depot.new) (D.counts depot.old) (D.counts depot.new)
@@ -152,8 +156,8 @@ impl Reader {
             → OnOk result (StaysInStep file self.new whole (Ok true)) }
     {
         if let Err(error) = self.held.look(depot, self.name.as_str()) {
-            self.state = closed_by(PagesError::Refused(error));
-            return Err(PagesError::Refused(error));
+            self.state = closed_by(ReadError::Refused(error));
+            return Err(ReadError::Refused(error));
         }
         let mut source = FileSource::new(depot, self.name.as_str(), &mut self.held);
         match self.pages.next(&mut source) {
@@ -172,7 +176,10 @@ impl Reader {
     /// read.
     #[cold]
     #[inline(never)]
-    pub fn finish<D: Depot>(&mut self, depot: &mut D) -> Result<(), PagesError<LoadError>>
+    pub fn finish<D: Depot>(
+        &mut self,
+        depot: &mut D,
+    ) -> Result<(), ReadError<ArchiveFault, LoadError>>
         requires going { self.old.state ≡ Open }
         requires done { self.old.pages.page ≡ self.old.pages.params.nodes }
         ensures goes { Goes D.told (D.files depot.old) (D.files depot.new) (D.counts depot.old) (D.counts depot.new)
@@ -183,8 +190,8 @@ impl Reader {
             → (whole : ListOf Whole) → IsInStep file self.old whole → OnOk result (AgreesIn Done file self.new whole) }
     {
         if let Err(error) = self.held.look(depot, self.name.as_str()) {
-            self.state = closed_by(PagesError::Refused(error));
-            return Err(PagesError::Refused(error));
+            self.state = closed_by(ReadError::Refused(error));
+            return Err(ReadError::Refused(error));
         }
         let mut source = FileSource::new(depot, self.name.as_str(), &mut self.held);
         match self.pages.finish(&mut source) {

@@ -2,12 +2,12 @@
 ghost use Rattle.std.specs.Prelude.{◌≡◌, ℕ, Bool, List, [], Ok, Err, length, IfOk, OnOk};
 ghost use Rattle.wg_params.specs.Parameters.{IsWithinLimits};
 ghost use Rattle.wg_grammar.specs.Archive.{ReadsGraph};
-ghost use Rattle.wg_stream.specs.Errors.{OnFault, OnRefusal};
+ghost use Rattle.wg_grammar.specs.Errors.{OnFault, OnRefusal};
 ghost use Rattle.wg_stream.specs.Prefix.{AreBehind};
 
-use crate::{Pages, PagesError};
+use crate::Pages;
 use std::alloc::Global;
-use wg_grammar::Source;
+use wg_grammar::{ArchiveFault, ReadError, Source};
 use wg_graph::{Graph, GraphBuilder};
 use wg_params::Params;
 
@@ -16,7 +16,7 @@ fn read_lists<S: Source>(
     pages: &mut Pages,
     graph: &mut GraphBuilder,
     source: &mut S,
-) -> Result<(), PagesError<S::Refusal>>
+) -> Result<(), ReadError<ArchiveFault, S::Refusal>>
     requires limits { IsWithinLimits pages.old.params }
     requires page { pages.old.page ≡ 0 }
     requires arcs { pages.old.arcs ≡ 0 }
@@ -49,7 +49,7 @@ fn read_into<S: Source>(
     params: Params,
     graph: &mut GraphBuilder,
     source: &mut S,
-) -> Result<(), PagesError<S::Refusal>>
+) -> Result<(), ReadError<ArchiveFault, S::Refusal>>
     requires start { S.offset source.old ≡ 0 }
     requires nodes { graph.old.nodes ≡ params.nodes }
     requires none { graph.old.lists ≡ [] }
@@ -73,7 +73,7 @@ pub fn read_graph<S: Source>(
     alloc: Global,
     params: Params,
     source: &mut S,
-) -> Result<Graph, PagesError<S::Refusal>>
+) -> Result<Graph, ReadError<ArchiveFault, S::Refusal>>
     requires { S.offset source.old ≡ 0 }
     ensures limits { IsWithinLimits params }
     ensures nodes { IfOk result (λ g. g.nodes ≡ params.nodes) }

@@ -10,7 +10,6 @@ ghost use Rattle.wg_stream.specs.AllRecords.{AllRecords, known_at, offset_at};
 ghost use Rattle.wg_stream.specs.References.{below_at};
 ghost use Rattle.wg_stream.specs.Sweeping.{AreKept, IsBack, IsNext, PassFinds};
 
-use crate::PagesError;
 use crate::passed::pass;
 use crate::standing::Standing;
 use std::alloc::{AllocError, Global};
@@ -18,6 +17,7 @@ use std::marker::Model;
 use std::mem::swap;
 use wg_bits::{Bits, Cursor};
 use wg_decoder::proper::{decode_behind, read_head};
+use wg_grammar::ReadError;
 use wg_graph::{Lists, Row};
 use wg_params::Params;
 
@@ -191,9 +191,9 @@ impl<'a> Sweep<'a> {
         params.nodes();
         match pass(alloc, bytes, params) {
             Ok(found) => Sweep::with_room(alloc, bytes, params, found.greatest),
-            Err(PagesError::Memory) => Err(AllocError),
-            Err(PagesError::Fault(_)) => unreachable!(),
-            Err(PagesError::Refused(never)) => match never {},
+            Err(ReadError::Memory) => Err(AllocError),
+            Err(ReadError::Fault(_)) => unreachable!(),
+            Err(ReadError::Refused(never)) => match never {},
         }
     }
 

@@ -4,15 +4,16 @@ ghost use Rattle.wg_outside.specs.declared.limits.TheConstants.{MOST_BYTES};
 ghost use Rattle.wg_bits.specs.Bits.{bits_of};
 ghost use Rattle.wg_grammar.specs.Archive.{ReadsGraph};
 ghost use Rattle.wg_params.specs.declared.limits.TheConstants.{MOST_PAGES};
-ghost use Rattle.wg_stream.specs.Errors.{OnFault};
+ghost use Rattle.wg_grammar.specs.Errors.{OnFault};
 ghost use Rattle.wg_stream.specs.Prefix.{AreBehind};
 ghost use Rattle.wg_transforms.specs.Counting.{CountsArcs};
 
 use std::alloc::Global;
 use std::convert::Infallible;
 use wg_bits::{Bits, Cursor};
+use wg_grammar::{ArchiveFault, ReadError};
 use wg_params::Params;
-use wg_stream::{Pages, PagesError};
+use wg_stream::Pages;
 use wg_transpose::count_arcs;
 
 /// What a pass finds.
@@ -30,7 +31,7 @@ pub(crate) fn count_records(
     alloc: Global,
     bytes: &[u8],
     params: Params,
-) -> Result<Counted, PagesError<Infallible>>
+) -> Result<Counted, ReadError<ArchiveFault, Infallible>>
     requires { length bytes.now ≤ MOST_BYTES }
     ensures finds { IfOk result (λ found. CountsArcs params (bits_of bytes.now) found.greatest found.counts.items) }
     ensures fault { OnFault result (λ f. ReadsGraph params (bits_of bytes.now) (Err f)) }
@@ -50,7 +51,7 @@ fn count_on(
     source: &mut Cursor<'_>,
     pages: &mut Pages,
     counts: &mut [u64],
-) -> Result<u64, PagesError<Infallible>>
+) -> Result<u64, ReadError<ArchiveFault, Infallible>>
     requires nodes { nodes ≡ pages.old.params.nodes }
     requires few { nodes ≤ MOST_PAGES }
     requires none { pages.old.page ≡ 0 }

@@ -10,14 +10,13 @@ use std::test::Fail;
 use wg_bits::{Bits, Cursor};
 use wg_decoder::{Known, Window, decode, decode_into, decode_on, head};
 use wg_encoder::Encoder;
-use wg_grammar::{ArchiveFault, Fault, Field, Kind, Need, Progress, Referenced};
+use wg_grammar::{ArchiveFault, Fault, Field, Kind, Need, Progress, ReadError, Referenced};
 use wg_graph::{Graph, List, Row};
 use wg_io::{Depot, LoadError, SteadyDepot};
 use wg_offsets::{Extent, Samples};
 use wg_params::Code;
 use wg_random::{Archive, CheckError, Records, Steps};
 use wg_source::Seek;
-use wg_stream::PagesError;
 use wg_vectors::usual;
 
 // 011 1 1 1011 100  011 01 1  1: page 1 copies the list of page 0
@@ -189,7 +188,7 @@ fn a_fault_in_words(rt: HostRuntime) -> Result<(), Fail> {
         field: Field::Residual,
         kind: Kind::Range,
     };
-    let error = PagesError::<LoadError>::Fault(ArchiveFault::Record(fault));
+    let error = ReadError::<ArchiveFault, LoadError>::Fault(ArchiveFault::Record(fault));
     let text = format!(in rt.alloc(); "{error}")?;
     assert!(rt; text.as_str() == "page 3: the residual at bit 17 is out of range");
     Ok(())

@@ -1,5 +1,5 @@
 use Rattle.std.proofs.Common.{refl}
-use Rattle.wg_decoder.proofs.Faults.{fault_is}
+use Rattle.wg_grammar.proofs.ErrorLemmas.{fault_is}
 use Rattle.wg_decoder.proofs.ahead.head.Goals as goal
 
 pub returns-in-Ok-clause-stands : goal.returns-in-Ok-clause-stands

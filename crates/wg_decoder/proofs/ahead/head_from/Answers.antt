@@ -1,5 +1,5 @@
 use Rattle.std.proofs.lemmas.Result.{IfOk-weaker}
-use Rattle.wg_decoder.proofs.Faults.{faults_weaker}
+use Rattle.wg_grammar.proofs.ErrorLemmas.{faults_weaker}
 use Rattle.wg_decoder.proofs.ApartLemmas.{head_stands_at, head_fails_at}
 use Rattle.wg_decoder.proofs.ahead.head_from.Goals as goal
 

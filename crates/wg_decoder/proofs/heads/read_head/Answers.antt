@@ -1,7 +1,7 @@
 use Rattle.std.proofs.Common.{◌<◌, inl, inr, arith}
 use Rattle.std.proofs.lemmas.Result.{err_from_is_err_and}
 use Rattle.wg_decoder.specs.Answer.{context_at}
-use Rattle.wg_decoder.proofs.Faults.{fault_weaker, refusal_weaker}
+use Rattle.wg_grammar.proofs.ErrorLemmas.{fault_weaker, refusal_weaker}
 use Rattle.wg_decoder.proofs.HeadLemmas.{no_reference_stands}
 use Rattle.wg_decoder.proofs.heads.read_head.Goals as goal
 

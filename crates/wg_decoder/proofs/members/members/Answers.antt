@@ -1,7 +1,7 @@
 use Rattle.std.proofs.Common.{◌≡◌, ◌-◌, cond, length, refl, ap, arith}
 use Rattle.std.proofs.lemmas.Result.{err_from_is_err_and, on_ok_weaker}
 use Rattle.wg_decoder.specs.Answer.{context_at}
-use Rattle.wg_decoder.proofs.Faults.{fault_weaker, refusal_weaker, faults_weaker, refusals_weaker}
+use Rattle.wg_grammar.proofs.ErrorLemmas.{fault_weaker, faults_weaker, refusal_weaker, refusals_weaker}
 use Rattle.wg_decoder.proofs.MemberLemmas.{inside_reached}
 use Rattle.wg_decoder.proofs.SpareLemmas.{all_short}
 use Rattle.wg_decoder.proofs.WholeLemmas.{no_copies, no_intervals, no_residuals, to_copies, all_read, union_ascends, union_below, union_short}

@@ -1,7 +1,7 @@
 use Rattle.std.proofs.Common.{length, refl, sym, ap, arith}
 use Rattle.std.proofs.lemmas.Result.{err_from_is_err_and}
 use Rattle.wg_decoder.specs.Answer.{context_at}
-use Rattle.wg_decoder.proofs.Faults.{fault_weaker}
+use Rattle.wg_grammar.proofs.ErrorLemmas.{fault_weaker}
 use Rattle.wg_decoder.proofs.Orders.{above_0, from_0, up_to_itself}
 use Rattle.wg_decoder.proofs.SpareLemmas.{none_lent}
 use Rattle.wg_decoder.proofs.HeadLemmas.{to_empty, to_head}

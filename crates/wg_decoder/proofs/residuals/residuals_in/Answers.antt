@@ -4,7 +4,7 @@ use Rattle.std.proofs.lemmas.List.{take_rest}
 use Rattle.wg_codes.specs.Fold.{number_of_gap}
 use Rattle.wg_graph.specs.Joined.{Joined}
 use Rattle.wg_graph.proofs.Unions.{joined_none}
-use Rattle.wg_decoder.proofs.Faults.{fault_weaker, refusal_weaker}
+use Rattle.wg_grammar.proofs.ErrorLemmas.{fault_weaker, refusal_weaker}
 use Rattle.wg_decoder.proofs.Orders.{from_0, from_1, from_next}
 use Rattle.wg_decoder.proofs.ResidualLemmas.{residuals_begin, residuals_fail, own_first, joining_first, joining_more, joining_fails, joining_all}
 use Rattle.wg_decoder.proofs.residuals.residuals_in.Goals as goal

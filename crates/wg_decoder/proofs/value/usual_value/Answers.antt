@@ -1,11 +1,18 @@
-use Rattle.std.proofs.Common.{rules, refl, subst, drop}
+use Rattle.std.proofs.Common.{◌≡◌, ◌∙◌, rules, refl, sym, ap, subst, drop, ℕ, Bool, List, IfOk, Result, Ok}
 use Rattle.wg_params.specs.declared.code.Code.{Code}
 use Rattle.wg_codes.specs.Reading.{Reads}
 use Rattle.wg_codes.specs.Words.{word, top}
+use Rattle.wg_codes.specs.declared.outcome.Read.{Read}
 use Rattle.wg_codes.specs.declared.outcome.Read.TheVariants.{NoWord}
-use Rattle.wg_decoder.proofs.Faults.{read_where}
+use Rattle.wg_grammar.specs.Standing.{IsReadAt}
 use Rattle.wg_decoder.proofs.value.usual_value.Goals as goal
 use Rattle.wg_decoder.proofs.value.usual_value.Goals.{then-eq, else-eq}
+
+-- what was read of a word, if it is this
+read_where : {E : Type 0} (code : Code) (bits : List Bool) (at end : ℕ) (word' found : Result Read E) (r q : Read) → word' ≡ found → word' ≡ Ok r → r ≡ q
+    → IfOk found (λ x. IsReadAt code bits at x end) → Reads (word code) (top code) (drop at bits) q
+read_where {E = E} code bits at end word' found r q a b c h =
+    (subst (λ (x : Result Read E). IfOk x (λ y. IsReadAt code bits at y end)) (sym a ∙ b ∙ ap Ok c) h).0
 
 pub returns-in-NoWord-clause-fault : goal.returns-in-NoWord-clause-fault
 returns-in-NoWord-clause-fault g c = λ bits r. record {

@@ -16,7 +16,8 @@ returns-in-Ok-true g c =
       moves = moves_lent g.D.Depot.files g.D.Depot.counts _ _ _ _ _ (assumption) (k.0 ∙ l.0) g.D.Depot.told _ _ _ (two_moves _ _ _ _ _ _ _ _ _ _ _ _ l.2 l.3 (step_moves _ _ _ _ _ _ _ _ k.3));
       onward = c.extent.ensures.onward;
       lies = λ t places on. c.extent.ensures.lies (bits_of on.open_on.file) places (found_moved _ _ _ _ _ _ _ _ _ l.2 l.3 t on.open_on) on.is;
-      cause = words_lent g.D.Depot.files g.D.Depot.counts _ _ _ _ _ (assumption) (k.0 ∙ l.0) g.D.Depot.told _ c.args.sampled.now _ _ l.2 l.3 c.extent.result c.extent.ensures.refused c.extent.ensures.right;
+      cause =
+          words_lent g.D.Depot.files g.D.Depot.counts _ _ _ _ _ (assumption) (k.0 ∙ l.0) g.D.Depot.told _ c.args.sampled.now _ _ l.2 l.3 c.extent.result c.extent.ensures.no_memory c.extent.ensures.refused c.extent.ensures.right;
     }
 
 pub returns-in-Ok-false : goal.returns-in-Ok-false

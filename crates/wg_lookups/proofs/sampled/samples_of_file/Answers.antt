@@ -29,6 +29,6 @@ returns-in-Err g c =
       pages = tt;
       samples = λ t bytes is at. tt;
       stopped = stopped_lent g.D.Depot.files g.D.Depot.counts _ _ _ _ _ (assumption) l.0 g.D.Depot.told _ _
-          c.args.params.now _ _ c.offsets.ensures.value c.nodes.ensures.value c.in-Err.error _ c.places_ending.ensures
+          c.args.params.now _ _ c.offsets.ensures.value c.nodes.ensures.value c.in-Err.error _ c.word_ending.ensures
           (rw (a.depot, a.held, a.name ∙ c.as_str.ensures) at c.in-Err.ensures.refused) (λ bits r. c.in-Err.ensures.fault bits (rw (a.depot, a.held, a.name ∙ c.as_str.ensures) r));
     }

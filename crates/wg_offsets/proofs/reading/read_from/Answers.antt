@@ -3,7 +3,7 @@ use Rattle.std.proofs.lemmas.List.{length_push}
 use Rattle.wg_outside.proofs.PutsLemmas.{is_that_err}
 use Rattle.wg_params.specs.declared.code.Code.{Code}
 use Rattle.wg_offsets.specs.Words.{ReadsOffsets}
-use Rattle.wg_offsets.proofs.ErrorLemmas.{fault_of_file, refusal_of_file}
+use Rattle.wg_grammar.proofs.ErrorLemmas.{refusal_weaker}
 use Rattle.wg_offsets.proofs.WordsLemmas.{last_more}
 use Rattle.wg_offsets.proofs.reading.read_from.Goals as goal
 
@@ -14,9 +14,9 @@ returns-in_err-offset g c =
     rw (is_that_err c.from_residual.result _ c.from_residual.ensures.1) record {
       count = tt;
       later = g.met.S.Source.goes_on _ _ _ i.later n.later;
-      refused = refusal_of_file c.in_err-offset.field-0.0 _ _ (λ x h. g.met.S.Source.still_caused _ _ _ x i.later h) n.refused;
+      refused = refusal_weaker c.in_err-offset.field-0.0 _ _ (λ x h. g.met.S.Source.still_caused _ _ _ x i.later h) n.refused;
       reads = λ bits r. tt;
-      fault = λ bits r. fault_of_file c.in_err-offset.field-0.0 c.loop-word.words _ _ bits i.code i.pages (n.fault bits c.loop-word.offsets (g.met.S.Source.same_bits _ _ bits i.later r) (i.read bits r));
+      fault = λ bits r. rw (i.code, i.pages) at (n.fault bits c.loop-word.offsets (g.met.S.Source.same_bits _ _ bits i.later r) (i.read bits r));
     }
 
 pub returns-in_err-push : goal.returns-in_err-push
@@ -36,9 +36,9 @@ returns-in_err-finish g c =
     rw (is_that_err c.from_residual-in_err-finish.result _ c.from_residual-in_err-finish.ensures.1) record {
       count = tt;
       later = g.met.S.Source.goes_on _ _ _ i.later n.later;
-      refused = refusal_of_file c.in_err-finish.field-0.0 _ _ (λ x h. g.met.S.Source.still_caused _ _ _ x i.later h) n.refused;
+      refused = refusal_weaker c.in_err-finish.field-0.0 _ _ (λ x h. g.met.S.Source.still_caused _ _ _ x i.later h) n.refused;
       reads = λ bits r. tt;
-      fault = λ bits r. fault_of_file c.in_err-finish.field-0.0 c.loop-word.words _ _ bits i.code i.pages (n.fault bits c.loop-word.offsets (g.met.S.Source.same_bits _ _ bits i.later r) (i.read bits r));
+      fault = λ bits r. rw (i.code, i.pages) at (n.fault bits c.loop-word.offsets (g.met.S.Source.same_bits _ _ bits i.later r) (i.read bits r));
     }
 
 pub returns-clause-reads : goal.returns-clause-reads

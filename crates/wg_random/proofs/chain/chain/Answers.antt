@@ -2,7 +2,7 @@ use Rattle.std.proofs.Common.{rules, ◌≡◌, ◌∙◌, ◌+◌, ◌-◌, ◌
 use Rattle.std.specs.Prelude.{get_or}
 use Rattle.wg_outside.proofs.PutsLemmas.{is_that_err}
 use Rattle.wg_decoder.specs.Chains.{HeadReads, RefersTo}
-use Rattle.wg_stream.proofs.ErrorLemmas.{refusal_weaker}
+use Rattle.wg_grammar.proofs.ErrorLemmas.{refusal_weaker}
 use Rattle.wg_random.proofs.ChainLemmas.{one_are_pages, one_falls, pushed_fall, pushed_length, pushed_pages}
 use Rattle.wg_random.proofs.SpotLemmas.{head_error, one_page, pushed_chain, pushed_here}
 use Rattle.wg_random.proofs.chain.chain.Goals as goal

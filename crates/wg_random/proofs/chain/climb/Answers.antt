@@ -6,7 +6,7 @@ use Rattle.wg_graph.specs.Ascending.{Ascends, Below}
 use Rattle.wg_decoder.specs.declared.decoded.Decoded.{Decoded}
 use Rattle.wg_decoder.specs.Remembered.{known_of}
 use Rattle.wg_decoder.specs.Chains.{ChainReads}
-use Rattle.wg_stream.proofs.ErrorLemmas.{fault_weaker, refusal_weaker}
+use Rattle.wg_grammar.proofs.ErrorLemmas.{fault_weaker, refusal_weaker}
 use Rattle.wg_random.proofs.SpotLemmas.{carried, last_reads, up_one, lent_reads}
 use Rattle.wg_random.proofs.chain.climb.Goals as goal
 

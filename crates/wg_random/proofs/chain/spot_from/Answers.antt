@@ -1,13 +1,13 @@
 use Rattle.std.proofs.Common.{ℕ, List, subst, sym}
 use Rattle.wg_random.specs.Spot.{IsWholeChain}
-use Rattle.wg_stream.proofs.ErrorLemmas.{on_refusal}
+use Rattle.wg_grammar.proofs.ErrorLemmas.{refusals_weaker}
 use Rattle.wg_random.proofs.SpotLemmas.{answer_of}
 use Rattle.wg_random.proofs.chain.spot_from.Goals as goal
 
 pub returns : goal.returns
 returns g c = record {
   reached = g.met.S.Seek.on_from _ _ _ c.in_ok-chain.ensures.reached c.climb.ensures.reached;
-  refused = on_refusal c.climb.result _ _ (λ x h. g.met.S.Seek.cause_stays _ _ _ x c.in_ok-chain.ensures.reached h) c.climb.ensures.refused;
+  refused = refusals_weaker c.climb.result _ _ (λ x h. g.met.S.Seek.cause_stays _ _ _ x c.in_ok-chain.ensures.reached h) c.climb.ensures.refused;
   answer = λ bits o r l.
       let p = c.args.params.now in
       let h = c.in_ok-chain.ensures in

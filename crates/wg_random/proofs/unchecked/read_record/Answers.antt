@@ -3,7 +3,7 @@ use Rattle.wg_outside.proofs.PutsLemmas.{is_that_err}
 use Rattle.std.proofs.lemmas.Result.{err_from_is_err_and}
 use Rattle.wg_grammar.specs.Context.{Known}
 use Rattle.wg_decoder.specs.Remembered.{known_of}
-use Rattle.wg_stream.proofs.ErrorLemmas.{fault_weaker, refusal_weaker, unread_fault, unread_refusal}
+use Rattle.wg_grammar.proofs.ErrorLemmas.{fault_weaker, record_fault, record_refusal, refusal_weaker}
 use Rattle.wg_random.proofs.SpotLemmas.{length_fault, record_cut, record_fails, whole_reads}
 use Rattle.wg_random.proofs.unchecked.read_record.Goals as goal
 
@@ -19,13 +19,13 @@ returns-in_err-decoded-clause-reached g c = g.met.S.Seek.on_from _ _ _ c.in_ok-e
 pub returns-in_err-decoded-clause-refused : goal.returns-in_err-decoded-clause-refused
 returns-in_err-decoded-clause-refused g c =
     let q = err_from_is_err_and c.from_residual-in_err-decoded.result c.from_residual-in_err-decoded.ensures.1 in
-    rw (q.1, q.2) (refusal_weaker _ _ _ (λ x h. g.met.S.Seek.cause_stays _ _ _ x c.in_ok-extent.ensures.reached h) (unread_refusal c.in_err-decoded.field-0.0 _ c.in_err-decoded.ensures.refused))
+    rw (q.1, q.2) (refusal_weaker _ _ _ (λ x h. g.met.S.Seek.cause_stays _ _ _ x c.in_ok-extent.ensures.reached h) (record_refusal c.in_err-decoded.field-0.0 _ c.in_err-decoded.ensures.refused))
 
 pub returns-in_err-decoded-clause-fault : goal.returns-in_err-decoded-clause-fault
 returns-in_err-decoded-clause-fault g c = λ bits o r l.
     let k : Known = record { list = c.args.named.now; depth = c.args.depth } in
     let on = g.met.S.Seek.bits_stay _ _ bits c.in_ok-extent.ensures.reached r in
-    rw (is_that_err c.from_residual-in_err-decoded.result _ c.from_residual-in_err-decoded.ensures.1) (unread_fault c.in_err-decoded.field-0.0 _ _
+    rw (is_that_err c.from_residual-in_err-decoded.result _ c.from_residual-in_err-decoded.ensures.1) (record_fault c.in_err-decoded.field-0.0 _ _
     (λ e bad. record_fails c.args.params.now bits o c.args.page k (g.S.Source.offset c.go_to_record.new.source) e (c.in_ok-extent.ensures.at ∙ (c.in_ok-extent.ensures.lies o l).0) bad)
     (c.in_err-decoded.ensures.fault bits on))
 

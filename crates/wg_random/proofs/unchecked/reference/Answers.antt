@@ -3,7 +3,7 @@ use Rattle.wg_outside.proofs.PutsLemmas.{is_that_err}
 use Rattle.std.proofs.lemmas.Result.{err_from_is_err_and}
 use Rattle.std.specs.Prelude.{replicate}
 use Rattle.wg_grammar.specs.Context.{no_page}
-use Rattle.wg_stream.proofs.ErrorLemmas.{fault_weaker, refusal_weaker, unread_fault, unread_refusal}
+use Rattle.wg_grammar.proofs.ErrorLemmas.{fault_weaker, record_fault, record_refusal, refusal_weaker}
 use Rattle.wg_random.proofs.SpotLemmas.{head_fault, head_reads, page_cut}
 use Rattle.wg_random.proofs.unchecked.reference.Goals as goal
 
@@ -18,13 +18,13 @@ returns-in_err-head-clause-reached g c = g.met.S.Seek.on_from _ _ _ c.in_ok-go_t
 pub returns-in_err-head-clause-refused : goal.returns-in_err-head-clause-refused
 returns-in_err-head-clause-refused g c =
     let q = err_from_is_err_and c.from_residual-in_err-head.result c.from_residual-in_err-head.ensures.1 in
-    rw (q.1, q.2) (refusal_weaker _ _ _ (λ x h. g.met.S.Seek.cause_stays _ _ _ x c.in_ok-go_to_record.ensures.reached h) (unread_refusal c.in_err-head.field-0.0 _ c.in_err-head.ensures.refused))
+    rw (q.1, q.2) (refusal_weaker _ _ _ (λ x h. g.met.S.Seek.cause_stays _ _ _ x c.in_ok-go_to_record.ensures.reached h) (record_refusal c.in_err-head.field-0.0 _ c.in_err-head.ensures.refused))
 
 pub returns-in_err-head-clause-fault : goal.returns-in_err-head-clause-fault
 returns-in_err-head-clause-fault g c = λ bits o r l.
     let p = c.args.params.now in
     let on = g.met.S.Seek.bits_stay _ _ bits c.in_ok-go_to_record.ensures.reached r in
-    rw (is_that_err c.from_residual-in_err-head.result _ c.from_residual-in_err-head.ensures.1) (unread_fault c.in_err-head.field-0.0 _ _
+    rw (is_that_err c.from_residual-in_err-head.result _ c.from_residual-in_err-head.ensures.1) (record_fault c.in_err-head.field-0.0 _ _
     (λ e bad. head_fault p bits o c.args.page (g.S.Source.offset c.go_to_record.new.source) e (c.in_ok-go_to_record.ensures.at ∙ (c.in_ok-go_to_record.ensures.lies o l).0) bad)
     (c.in_err-head.ensures.fault bits on (replicate p.window no_page)))
 

@@ -1,7 +1,7 @@
 use Rattle.std.proofs.Common.{◌∙◌, rules, refl, ap}
 use Rattle.std.specs.FinMap as map
 use Rattle.wg_bits.specs.Bits.{bits_of}
-use Rattle.wg_readings.proofs.PairingLemmas.{steps_as, word_stopped}
+use Rattle.wg_readings.proofs.PairingLemmas.{steps_as, word_stopped_on}
 use Rattle.wg_readings.proofs.pairing.end_words.Goals as goal
 
 pub returns-in-Ok : goal.returns-in-Ok
@@ -29,7 +29,7 @@ returns-in-Err g c =
       reads = λ t file is i places r. tt;
       stopped = λ looked found reads.
           rw c.word_ending.ensures
-          (word_stopped _ c.args.pairing.now.name _ _ _ c.args.pairing.now.held c.args.params.now c.in-Err.error (search rules) looked found
+          (word_stopped_on _ c.args.pairing.now.name _ _ _ c.args.pairing.now.held c.args.params.now c.in-Err.error (search rules) looked found
           (λ t file is.
           let k = reads t file is in (
             k.0,

@@ -7,7 +7,7 @@ use Rattle.wg_grammar.specs.Archive.{lists_of, places_of, ReadsGraph}
 use Rattle.wg_offsets.specs.Places.{last_place}
 use Rattle.wg_offsets.proofs.WordsLemmas.{last_more}
 use Rattle.wg_stream.specs.Prefix.{AreBehind}
-use Rattle.wg_stream.proofs.ErrorLemmas.{fault_weaker}
+use Rattle.wg_grammar.proofs.ErrorLemmas.{fault_weaker}
 use Rattle.wg_stream.proofs.PrefixLemmas.{places_more}
 use Rattle.wg_stream.proofs.SweepLemmas.{one_greater}
 use Rattle.wg_stream.proofs.passed.pass_on.Goals as goal

@@ -5,7 +5,8 @@ use Rattle.std.proofs.lemmas.Result.{err_from_is_err_and}
 use Rattle.wg_params.specs.Parameters.{Parameters}
 use Rattle.wg_graph.specs.Ascending.{Below}
 use Rattle.wg_grammar.specs.Archive.{lists_of, places_of, ReadsGraph}
-use Rattle.wg_stream.proofs.ErrorLemmas.{fault_weaker, refusal_weaker, on_fault, on_ok, on_refusal, holds_ok}
+use Rattle.wg_grammar.proofs.ErrorLemmas.{fault_weaker, faults_weaker, refusal_weaker, refusals_weaker}
+use Rattle.wg_stream.proofs.ErrorLemmas.{on_ok, holds_ok}
 use Rattle.wg_stream.proofs.PrefixLemmas.{no_arcs, lists_more, arcs_more}
 use Rattle.wg_stream.proofs.records.read_lists.Goals as goal
 
@@ -96,7 +97,7 @@ pub returns : goal.returns
 returns g c = record {
   nodes = c.loop-page.invariant.same_nodes;
   later = g.met.S.Source.goes_on _ _ _ c.loop-page.invariant.later c.finish.ensures.later;
-  refused = on_refusal c.finish.result _ _ (λ x h. g.met.S.Source.still_caused _ _ _ x c.loop-page.invariant.later h) c.finish.ensures.refused;
+  refused = refusals_weaker c.finish.result _ _ (λ x h. g.met.S.Source.still_caused _ _ _ x c.loop-page.invariant.later h) c.finish.ensures.refused;
   all =
       let l = c.loop-page in
       let all : length l.graph.lists ≡ c.args.graph.now.nodes = omega (arith, l.invariant.begun, c.loop-page-test.false, c.nodes-nodes.ensures.value, l.auto._page-end) in
@@ -115,5 +116,5 @@ returns g c = record {
       let h = c.loop-page.invariant in
       let k = h.read bits r start in
       let on = g.met.S.Source.same_bits _ _ bits h.later r in
-      on_fault c.finish.result _ _ (λ f e. subst (λ (q : Parameters). ReadsGraph q bits (Err f)) h.same_params e) (c.finish.ensures.fault bits k.0 on k.1);
+      faults_weaker c.finish.result _ _ (λ f e. subst (λ (q : Parameters). ReadsGraph q bits (Err f)) h.same_params e) (c.finish.ensures.fault bits k.0 on k.1);
 }

@@ -5,7 +5,7 @@ use Rattle.wg_params.specs.Parameters.{Parameters}
 use Rattle.wg_grammar.specs.Archive.{lists_of, places_of, ReadsGraph}
 use Rattle.wg_transpose.specs.SoFar.{AreCounts, predecessors_below}
 use Rattle.wg_transpose.proofs.Steps.{few_counts}
-use Rattle.wg_stream.proofs.ErrorLemmas.{fault_weaker}
+use Rattle.wg_grammar.proofs.ErrorLemmas.{fault_weaker}
 use Rattle.wg_stream.proofs.SweepLemmas.{one_greater}
 use Rattle.wg_transforms.proofs.CountingLemmas.{graph_behind, record_counted}
 use Rattle.wg_transforms.proofs.counting.count_on.Goals as goal

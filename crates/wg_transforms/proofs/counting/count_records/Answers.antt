@@ -5,7 +5,7 @@ use Rattle.wg_outside.proofs.PutsLemmas.{is_that_err}
 use Rattle.wg_bits.specs.Bits.{bits_of}
 use Rattle.wg_params.specs.Parameters.{Parameters}
 use Rattle.wg_grammar.specs.Archive.{ReadsGraph}
-use Rattle.wg_stream.specs.Errors.{OfFault}
+use Rattle.wg_grammar.specs.Errors.{OfFault}
 use Rattle.wg_transforms.specs.Counting.{CountsArcs}
 use Rattle.wg_transforms.proofs.counting.count_records.Goals as goal
 

@@ -1,6 +1,6 @@
 use Rattle.std.proofs.Common.{◌≡◌, ◌∙◌, ◌+◌, [], ◌∷◌, ◌++◌, sym, arith}
 use Rattle.wg_outside.proofs.PutsLemmas.{is_that_err}
-use Rattle.wg_offsets.proofs.ErrorLemmas.{fault_of_file, refusal_of_file}
+use Rattle.wg_grammar.proofs.ErrorLemmas.{refusal_weaker}
 use Rattle.wg_offsets.proofs.SamplesLemmas.{read_as}
 use Rattle.wg_offsets.proofs.samples.Samples.read.Goals as goal
 
@@ -12,11 +12,11 @@ returns-in_err-place g c =
       pages = tt;
       code = tt;
       later = g.met.S.Source.goes_on _ _ _ i.later n.later;
-      refused = refusal_of_file c.in_err-place.field-0.0 _ _ (λ x h. g.met.S.Source.still_caused _ _ _ x i.later h) n.refused;
+      refused = refusal_weaker c.in_err-place.field-0.0 _ _ (λ x h. g.met.S.Source.still_caused _ _ _ x i.later h) n.refused;
       reads = λ bits r. tt;
       fault = λ bits r.
           let a = i.read bits r in
-          fault_of_file c.in_err-place.field-0.0 c.loop-page.words _ _ bits i.code i.pages (n.fault bits a.0 (g.met.S.Source.same_bits _ _ bits i.later r) a.1);
+          rw (i.code, i.pages) at (n.fault bits a.0 (g.met.S.Source.same_bits _ _ bits i.later r) a.1);
     }
 
 pub loop-page-preserved : goal.loop-page-preserved
@@ -60,11 +60,11 @@ returns-in_err-finish g c =
       pages = tt;
       code = tt;
       later = g.met.S.Source.goes_on _ _ _ i.later n.later;
-      refused = refusal_of_file c.in_err-finish.field-0.0 _ _ (λ x h. g.met.S.Source.still_caused _ _ _ x i.later h) n.refused;
+      refused = refusal_weaker c.in_err-finish.field-0.0 _ _ (λ x h. g.met.S.Source.still_caused _ _ _ x i.later h) n.refused;
       reads = λ bits r. tt;
       fault = λ bits r.
           let a = i.read bits r in
-          fault_of_file c.in_err-finish.field-0.0 c.loop-page.words _ _ bits i.code i.pages (n.fault bits a.0 (g.met.S.Source.same_bits _ _ bits i.later r) a.1);
+          rw (i.code, i.pages) at (n.fault bits a.0 (g.met.S.Source.same_bits _ _ bits i.later r) a.1);
     }
 
 pub returns-clause-reads : goal.returns-clause-reads

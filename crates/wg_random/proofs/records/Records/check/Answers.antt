@@ -1,7 +1,7 @@
 use Rattle.std.proofs.Common.{Err, sym, subst}
 use Rattle.wg_bits.specs.Bits.{bits_of}
 use Rattle.wg_grammar.specs.Archive.{ReadsGraph}
-use Rattle.wg_stream.specs.Errors.{OfFault}
+use Rattle.wg_grammar.specs.Errors.{OfFault}
 use Rattle.wg_random.proofs.records.Records.check.Goals as goal
 
 pub returns-in-Err-Fault-clause-refused : goal.returns-in-Err-Fault-clause-refused

@@ -9,7 +9,8 @@ use Rattle.wg_grammar.specs.Archive.{ReadsGraph}
 use Rattle.wg_grammar.specs.declared.fault.ArchiveFault.TheVariants as archive
 use Rattle.wg_decoder.proofs.Lists.{short_below}
 use Rattle.wg_decoder.proofs.Serving.{serves_next}
-use Rattle.wg_stream.proofs.ErrorLemmas.{unread_of_graph, unread_fault, unread_refusal}
+use Rattle.wg_grammar.proofs.ErrorLemmas.{record_fault, record_refusal}
+use Rattle.wg_stream.proofs.ErrorLemmas.{record_of_graph}
 use Rattle.wg_stream.proofs.PrefixLemmas.{one_more, one_refused, sound_spared}
 use Rattle.wg_stream.proofs.pages.Pages.next.Goals as goal
 
@@ -56,13 +57,13 @@ returns-in_err-decoded g c =
       page = tt;
       arcs = tt;
       err = ap (λ (s : PagesRead). record s { spares = c.decode_from.new.spares }) c.self.view_is;
-      graph = unread_of_graph c.in_err-decoded.field-0.0;
+      graph = record_of_graph c.in_err-decoded.field-0.0;
       later = n.later;
-      refused = unread_refusal c.in_err-decoded.field-0.0 _ n.refused;
+      refused = record_refusal c.in_err-decoded.field-0.0 _ n.refused;
       reads = λ bits behind r h. tt;
       fault = λ bits behind r h.
           let here = subst (λ (s : PagesRead). RecordsStand s.params bits s.page s.arcs at s.kept behind) (sym c.self.view_is) h in
-          unread_fault c.in_err-decoded.field-0.0 _ _
+          record_fault c.in_err-decoded.field-0.0 _ _
           (λ f refused. subst (λ (s : PagesRead). ReadsGraph s.params bits (Err (archive.Record f))) c.self.view_is (one_refused i.params bits i.page i.arcs at i.window.behind behind f here next refused))
           (n.fault bits r);
       few = (sound_spared _ c.decode_from.new.spares c.self.invariant.1 (n.short c.self.invariant.1.held.short.spares)).held;

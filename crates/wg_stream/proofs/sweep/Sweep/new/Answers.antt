@@ -1,7 +1,7 @@
 use Rattle.std.proofs.Common.{Err, subst}
 use Rattle.wg_bits.specs.Bits.{bits_of}
 use Rattle.wg_grammar.specs.Archive.{ReadsGraph}
-use Rattle.wg_stream.specs.Errors.{OfFault}
+use Rattle.wg_grammar.specs.Errors.{OfFault}
 use Rattle.wg_stream.proofs.SweepLemmas.{no_fault}
 use Rattle.wg_stream.proofs.sweep.Sweep.new.Goals as goal
 
