@@ -1,5 +1,5 @@
 -- The lists whose memory serves for later ones.
-use Rattle.std.specs.Prelude.{ℕ, ◌+◌, ◌≤◌, List, min}
+use Rattle.std.specs.Prelude.{ℕ, ◌≤◌, List}
 use Rattle.std.specs.Borrow.{MutBor, Fml}
 use Rattle.std.specs.Io.BufRead.{Rests}
 use Rattle.wg_graph.specs.contracts.list.List.{the_row}
@@ -13,10 +13,6 @@ pub record SpareLengths : Type 0 where
 
 abbrev pub all_empty : SpareLengths
 all_empty = record { copied = 0; inside = 0; united = 0; furthest = 0 }
-
--- how many of the three that a record is read with hold numbers
-abbrev pub in_use : SpareLengths → ℕ
-in_use s = min s.copied 1 + min s.inside 1 + min s.united 1
 
 -- no list has more numbers than this
 pub record NoneLonger (most : ℕ) (s : SpareLengths) : Type 0 where
