@@ -17,7 +17,7 @@ refusal_weaker (Fault f) P Q on h = tt
 refusal_weaker Memory P Q on h = tt
 refusal_weaker (Refused r) P Q on h = on r h
 
--- the same of what a call answers, which may be no error
+-- what holds of a fault or a refusal, of an answer that may be no error
 pub faults_weaker : {A F R : Type 0} (x : Result A (ReadError F R)) (P Q : F → Type 0) → ((f : F) → P f → Q f) → OnFault x P → OnFault x Q
 faults_weaker (Ok a) P Q on h = tt
 faults_weaker (Err e) P Q on h = fault_weaker e P Q on h

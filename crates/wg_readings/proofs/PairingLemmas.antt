@@ -88,7 +88,7 @@ module _ (told : Bool) (name : List ℕ) (files : Files) (old new : List ℕ →
     refused = λ t limits r next. inr tt;
   }
 
-  -- the same of a file that was looked for
+  -- how a job ends at a word, of a file that was looked for
   pub word_stopped_on : (e : ReadError OffsetWord LoadError) → OfRefusal e (HasReadCause told name files old new h) → h.looked ≡ true
       → (IsTrue told → (file : List ℕ) × (map.get files name ≡ Some file))
       → (IsTrue told → (file : List ℕ) → map.get files name ≡ Some file → IsHeldOf file h × OfFault e (λ w. ReadsOffsets p.offsets p.nodes (bits_of file) (Err w)))
