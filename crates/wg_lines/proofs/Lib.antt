@@ -1,3 +1,4 @@
+pub mod FirstFault
 pub mod HoldLemmas
 pub mod LineLemmas
 pub mod NumberLines
