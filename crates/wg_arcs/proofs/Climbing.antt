@@ -19,7 +19,7 @@ climbs_at o (a ∷ arcs) (suc i) d h lt = climbs_at (Some a) arcs i d h.1 (omega
 
 climbs-append : (o : Option Arc) (xs ys : List Arc) → Climbs o xs → Climbs (last_or o xs) ys → Climbs o (xs ++ ys)
 climbs-append o [] ys h g = g
-climbs-append o (x ∷ xs) ys h g = (h.0, climbs-append (Some x) xs ys h.1 g)
+climbs-append o (x ∷ xs) ys h g = (h.0, climbs-append _ xs ys h.1 g)
 
 -- o comes before each arc of the pages from u on
 abbrev Precedes : Option Arc → ℕ → Type 0
@@ -27,7 +27,7 @@ Precedes o u = (x w : ℕ) → u ≤ x → is_after o (x, w) ≡ true
 
 climbs_list : (o : Option Arc) (u k : ℕ) (vs : List ℕ) → ((w : ℕ) → k ≤ w → is_after o (u, w) ≡ true) → Ascends k vs → Climbs o (map (λ v. (u, v)) vs)
 climbs_list o u k [] h up = tt
-climbs_list o u k (v ∷ vs) h up = (h v up.0, climbs_list (Some (u, v)) u (suc v) vs (λ w le. before_next u v w (omega arith)) up.1)
+climbs_list o u k (v ∷ vs) h up = (h v up.0, climbs_list _ u (suc v) vs (λ w le. before_next u v w (omega arith)) up.1)
 
 last_precedes : (u v : ℕ) (vs : List ℕ) → Precedes (last_or (Some (u, v)) (map (λ v. (u, v)) vs)) (u + 1)
 last_precedes u v [] x w le = before_lower u v x w (omega arith)
@@ -40,8 +40,8 @@ list_precedes o u (v ∷ vs) h x w le = last_precedes u v vs x w le
 pub climbs_from : (o : Option Arc) (u : ℕ) (lists : List (List ℕ)) → Precedes o u → All (Ascends 0) lists → Climbs o (arcs_from u lists)
 climbs_from o u [] h up = tt
 climbs_from o u (list ∷ lists) h up =
-    climbs-append o (map (λ v. (u, v)) list) (arcs_from (u + 1) lists) (climbs_list o u 0 list (λ w le. h u w (omega arith)) (All-head (Ascends 0) list lists up))
-    (climbs_from (last_or o (map (λ v. (u, v)) list)) (u + 1) lists (list_precedes o u list h) (All-tail (Ascends 0) list lists up))
+    climbs-append o (map (λ v. (u, v)) list) _ (climbs_list o u 0 list (λ w le. h u w (omega arith)) (All-head (Ascends 0) list lists up))
+    (climbs_from _ (u + 1) lists (list_precedes o u list h) (All-tail (Ascends 0) list lists up))
 
 -- the first numbers are below m, the second below n
 abbrev pub Within : ℕ → ℕ → List Arc → Type 0
@@ -59,7 +59,7 @@ within_list m n u (v ∷ vs) lt low = (lt, low.0, within_list m n u vs lt low.1)
 pub within_from : (m n u : ℕ) (lists : List (List ℕ)) → u + length lists ≤ m → All (Below n) lists → Within m n (arcs_from u lists)
 within_from m n u [] le low = tt
 within_from m n u (list ∷ lists) le low =
-    within-append m n (map (λ v. (u, v)) list) (arcs_from (u + 1) lists) (within_list m n u list (omega arith) (All-head (Below n) list lists low)) (within_from m n (u + 1) lists (omega arith) (All-tail (Below n) list lists low))
+    within-append m n _ _ (within_list m n u list (omega arith) (All-head (Below n) list lists low)) (within_from m n (u + 1) lists (omega arith) (All-tail (Below n) list lists low))
 
 pub within_at : (m n : ℕ) (arcs : List Arc) (i : ℕ) (d : Arc) → Within m n arcs → i < length arcs → ((get_or arcs i d).0 < m) × ((get_or arcs i d).1 < n)
 within_at m n [] i d h lt = absurd (omega arith)

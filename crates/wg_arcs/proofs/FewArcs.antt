@@ -31,5 +31,5 @@ few_in_front n lines (suc k) le sound =
 pub listed_few : (n : ℕ) (lines : List (List ℕ)) (g : Digraph) → AreArcs n lines g → arc_count g ≤ MOST_ARCS
 listed_few n lines g are =
     let front = few_in_front n lines (length lines) (omega arith) are.sound in
-    let all : arcs_in (take (length lines) lines) ≡ arcs_in lines = ap arcs_in (take_all (length lines) lines (omega arith)) in
-    omega (arith, ap length all, ap length are.arcs, length-arcs_from 0 g.lists)
+    let all : arcs_in _ ≡ arcs_in lines = ap arcs_in (take_all (length lines) lines (omega arith)) in
+    omega (arith, ap length all, ap length are.arcs, length-arcs_from)

@@ -1,11 +1,11 @@
 -- A text of numbers has one outcome, and this is what the reading gives.
-use Rattle.std.proofs.Common.{◌≡◌, ◌⊎◌, ℕ, ◌+◌, ◌<◌, ◌≤◌, List, [], ◌∷◌, ◌++◌, length, take, get_or, Option, Some, None, Result, Ok, Err, refl, sym, ap, subst, ◌∙◌, arith, inl, inr, append_assoc, append-nil, length-append, lt-ltb}
-use Rattle.std.specs.List.{filter_map}
+use Rattle.std.proofs.Common.{◌≡◌, ◌⊎◌, ℕ, ◌+◌, ◌<◌, ◌≤◌, List, [], ◌∷◌, ◌++◌, length, Option, Some, None, Result, Ok, Err, refl, sym, ap, subst, ◌∙◌, arith, inl, inr, append_assoc, append-nil, length-append}
+use Rattle.wg_arcs.proofs.Soundness.{one_more}
 use Rattle.std.specs.Prelude.{option_to_list}
-use Rattle.std.proofs.lemmas.Bool.{cases_Bool, cases_lt, cases_eq, le-leb, lt-leb, le-ltb}
-use Rattle.std.proofs.lemmas.Option.{none-some, same_Some}
+use Rattle.std.proofs.lemmas.Bool.{cases_Bool, cases_lt}
+use Rattle.std.proofs.lemmas.Option.{none-some}
 use Rattle.std.proofs.lemmas.List.{take_at, get_or_at, length_push}
-use Rattle.std.proofs.lemmas.List.Elements.{filter_map-append}
+use Rattle.wg_lines.proofs.FirstFault.{first_is_one}
 use Rattle.wg_num.specs.Lines.{lines_of}
 use Rattle.wg_num.specs.Words.{words_of}
 use Rattle.wg_arcs.specs.declared.numbers_fault.NumbersError.{NumbersError}
@@ -13,7 +13,6 @@ use Rattle.wg_arcs.specs.declared.numbers_fault.NumbersError.TheVariants as erro
 use Rattle.wg_arcs.specs.declared.numbers_fault.NumbersFault.{NumbersFault}
 use Rattle.wg_arcs.specs.declared.numbers_fault.NumbersFault.TheVariants as fault
 use Rattle.wg_arcs.specs.declared.numbers_fault.NumbersKind.{NumbersKind}
-use Rattle.wg_arcs.specs.declared.numbers_fault.NumbersKind.TheVariants as kind
 use Rattle.wg_arcs.specs.Reading.{is_skipped}
 use Rattle.wg_arcs.specs.Numbers.{number_in, judged, numbers_on, numbers_from, numbers_of, AreRead}
 use Rattle.wg_arcs.specs.NumberTexts.{number_at, numbers_in, number_refusal, number_fault, number_fault_at, AreNumbers, IsFirstFaultyLine, AreTooFew, IsOutcome, AreListed}
@@ -26,15 +25,7 @@ use Rattle.wg_arcs.proofs.ReadNumbers.{after_these, begun, step, stopped, ended,
 judged_is : (n limit line before : ℕ) (o : Option ℕ) →
     ((number_refusal n limit before o ≡ None) × (judged n limit line before o ≡ Ok (option_to_list o)) × (before + length (option_to_list o) ≤ n))
     ⊎ ((k : NumbersKind) × (number_refusal n limit before o ≡ Some k) × (judged n limit line before o ≡ Err (fault.Line line k)))
-judged_is n limit line before None = inr (kind.Shape, refl, refl)
-judged_is n limit line before (Some v) =
-    elim (cases_lt v limit) [
-      | inr le ↦ inr (kind.Range, rw (le-leb limit v le) refl, rw (le-leb limit v le) refl)
-      | inl lt ↦ elim (cases_lt before n) [
-        | inl room ↦ inl (rw (lt-leb limit v lt, lt-ltb before n room) refl, rw (lt-leb limit v lt, lt-ltb before n room) refl, omega arith)
-        | inr full ↦ inr (kind.TooMany, rw (lt-leb limit v lt, le-ltb before n full) refl, rw (lt-leb limit v lt, le-ltb before n full) refl)
-      ]
-    ]
+judged_is n limit line before o = grind arith
 
 -- a line is in order, and its number, if it has one, is taken
 record IsFine (n limit line before : ℕ) (text : List ℕ) : Type 0 where
@@ -74,28 +65,16 @@ none_read n limit all = record { done = []; split = refl; counted = refl; number
 
 -- the fault of the line that comes next
 next_fault : (n limit : ℕ) (all rest : List (List ℕ)) (text : List ℕ) (count : ℕ) (xs : List ℕ) → SoFar n limit all (text ∷ rest) count xs → number_fault_at n limit all count ≡ number_fault n limit (length xs) text
-next_fault n limit all rest text count xs h =
-    let front : take count all ≡ h.done = ap (take count) h.split ∙ take_at h.done (text ∷ rest) count h.counted in
-    let line : get_or all count [] ≡ text = ap (λ (ls : List (List ℕ)). get_or ls count []) h.split ∙ get_or_at h.done text rest [] count h.counted in
-    ap (λ (ls : List (List ℕ)). number_fault n limit (length (numbers_in ls)) (get_or all count [])) front
-    ∙ ap (λ (l : List ℕ). number_fault n limit (length (numbers_in h.done)) l) line
-    ∙ ap (λ (l : List ℕ). number_fault n limit (length l) text) (sym h.numbers)
-
-at_one : (o : Option ℕ) → filter_map (λ (x : Option ℕ). x) (o ∷ []) ≡ option_to_list o
-at_one None = refl
-at_one (Some v) = refl
-
-one_more : (done : List (List ℕ)) (text : List ℕ) → numbers_in done ++ option_to_list (number_at text) ≡ numbers_in (done ++ text ∷ [])
-one_more done text = ap (λ (l : List ℕ). numbers_in done ++ l) (sym (at_one (number_at text))) ∙ sym (filter_map-append number_at done (text ∷ []))
+next_fault n limit all rest text count xs h = grind (arith, take_at, get_or_at)
 
 more_read : (n limit line : ℕ) (all rest : List (List ℕ)) (text : List ℕ) (count : ℕ) (xs : List ℕ) → SoFar n limit all (text ∷ rest) count xs → IsFine n limit line (length xs) text →
     SoFar n limit all rest (count + 1) (xs ++ option_to_list (number_at text))
 more_read n limit line all rest text count xs h f = record {
   done = h.done ++ text ∷ [];
-  split = h.split ∙ sym (append_assoc h.done (text ∷ []) rest);
+  split = h.split ∙ sym (append_assoc h.done _ rest);
   counted = length_push h.done text ∙ ap (λ (k : ℕ). k + 1) h.counted;
-  numbers = ap (λ (l : List ℕ). l ++ option_to_list (number_at text)) h.numbers ∙ one_more h.done text;
-  few = omega (arith, f.few h.few, length-append xs (option_to_list (number_at text)));
+  numbers = ap (λ (l : List ℕ). l ++ option_to_list (number_at text)) h.numbers ∙ one_more number_at h.done text;
+  few = omega (arith, length-append xs (option_to_list (number_at text)));
   sound = λ i lt. elim (cases_lt i count) [ inl low ↦ h.sound i low | inr high ↦ (let same : i ≡ count = omega arith in subst (λ (k : ℕ). number_fault_at n limit all k ≡ None) (sym same) (next_fault n limit all rest text count xs h ∙ f.fine)) ];
 }
 
@@ -133,10 +112,10 @@ walk n limit all [] count xs h =
 walk n limit all (text ∷ rest) count xs h =
     elim (line_is n limit (count + 1) (length xs) text) [
       | inl f ↦
-          let these : List ℕ = option_to_list (number_at text) in
+          let these : List ℕ = option_to_list _ in
           subst (IsOutcome n limit all) (sym (step n limit (count + 1) (after_these xs (numbers_from n limit (count + 1) (length xs) (text ∷ rest))) xs these (xs ++ these) text (text ∷ rest) rest refl refl f.read refl))
           (walk n limit all rest (count + 1) (xs ++ these) (more_read n limit (count + 1) all rest text count xs h f))
-      | inr f ↦ subst (IsOutcome n limit all) (sym (stopped n limit (count + 1) (after_these xs (numbers_from n limit (count + 1) (length xs) (text ∷ rest))) xs text (text ∷ rest) rest (fault.Line (count + 1) f.what) refl refl f.refused))
+      | inr f ↦ subst (IsOutcome n limit all) (sym (stopped n limit (count + 1) (after_these xs (numbers_from n limit (count + 1) (length xs) (text ∷ rest))) xs text (text ∷ rest) rest _ refl refl f.refused))
           (first_fault n limit (count + 1) all rest text count xs h f refl)
     ]
 
@@ -148,43 +127,32 @@ outcome n limit bytes = subst (IsOutcome n limit (lines_of bytes)) (sym (begun n
 
 same_line : (n limit : ℕ) (lines : List (List ℕ)) (line line1 : ℕ) (k k1 : NumbersKind) → IsFirstFaultyLine n limit lines line k → IsFirstFaultyLine n limit lines line1 k1 → (line ≡ line1) × (k ≡ k1)
 same_line n limit lines line line1 k k1 f g =
-    let p = f.counted in
-    let q = g.counted in
-    elim (cases_eq f.index g.index) [
-      | inl e ↦ (omega arith, same_Some k k1 (sym f.fault ∙ ap (number_fault_at n limit lines) e ∙ g.fault))
-      | inr ne ↦ elim (cases_lt f.index g.index) [
-        | inl lt ↦ absurd (none-some k (sym (g.sound f.index lt) ∙ f.fault))
-        | inr le ↦ absurd (none-some k1 (sym (f.sound g.index (omega arith)) ∙ g.fault))
-      ]
-    ]
+    let same = first_is_one _ f.index g.index k k1 f.fault g.fault f.sound g.sound in
+    (omega arith, same.1)
 
 sound_or_faulty : (n limit : ℕ) (lines : List (List ℕ)) (line : ℕ) (k : NumbersKind) → ((i : ℕ) → i < length lines → number_fault_at n limit lines i ≡ None) → IsFirstFaultyLine n limit lines line k → ⊥
 sound_or_faulty n limit lines line k sound f = none-some k (sym (sound f.index f.there) ∙ f.fault)
 
 numbers_or_too_few : (n limit : ℕ) (lines : List (List ℕ)) (xs : List ℕ) (found : ℕ) → AreNumbers n limit lines xs → AreTooFew n limit lines found → ⊥
-numbers_or_too_few n limit lines xs found a f =
-    let p = a.wanted in
-    let q = f.counted in
-    let few = f.few in
-    omega (arith, ap length a.numbers)
+numbers_or_too_few n limit lines xs found a f = grind arith
 
 one_outcome : (n limit : ℕ) (lines : List (List ℕ)) (w x : Result (List ℕ) NumbersFault) → IsOutcome n limit lines w → IsOutcome n limit lines x → w ≡ x
 one_outcome n limit lines (Ok xs) (Ok ys) a b = ap Ok (a.numbers ∙ sym b.numbers)
 one_outcome n limit lines (Ok xs) (Err (fault.Line line k)) a b = absurd (sound_or_faulty n limit lines line k a.sound b)
-one_outcome n limit lines (Ok xs) (Err (fault.Count found)) a b = absurd (numbers_or_too_few n limit lines xs found a b)
+one_outcome n limit lines (Ok xs) (Err (fault.Count found)) a b = grind arith
 one_outcome n limit lines (Err (fault.Line line k)) (Ok ys) a b = absurd (sound_or_faulty n limit lines line k b.sound a)
 one_outcome n limit lines (Err (fault.Line line k)) (Err (fault.Line line1 k1)) a b = let same = same_line n limit lines line line1 k k1 a b in λ i. Err (fault.Line (same.0 i) (same.1 i))
 one_outcome n limit lines (Err (fault.Line line k)) (Err (fault.Count found)) a b = absurd (sound_or_faulty n limit lines line k b.sound a)
 one_outcome n limit lines (Err (fault.Count found)) (Ok ys) a b = absurd (numbers_or_too_few n limit lines ys found b a)
 one_outcome n limit lines (Err (fault.Count found)) (Err (fault.Line line k)) a b = absurd (sound_or_faulty n limit lines line k a.sound b)
-one_outcome n limit lines (Err (fault.Count found)) (Err (fault.Count found1)) a b = ap (λ (m : ℕ). Err (fault.Count m)) (a.counted ∙ sym b.counted)
+one_outcome n limit lines (Err (fault.Count found)) _ a b = ap (λ (m : ℕ). Err (fault.Count m)) (a.counted ∙ sym b.counted)
 
 -- the reading gives this exactly if it is the outcome
 given : (n limit : ℕ) (bytes : List ℕ) (w : Result (List ℕ) NumbersFault) → numbers_of n limit bytes ≡ w → IsOutcome n limit (lines_of bytes) w
-given n limit bytes w e = subst (IsOutcome n limit (lines_of bytes)) e (outcome n limit bytes)
+given n limit bytes w e = subst (IsOutcome n limit _) e (outcome n limit bytes)
 
 gives : (n limit : ℕ) (bytes : List ℕ) (w : Result (List ℕ) NumbersFault) → IsOutcome n limit (lines_of bytes) w → numbers_of n limit bytes ≡ w
-gives n limit bytes w h = one_outcome n limit (lines_of bytes) (numbers_of n limit bytes) w (outcome n limit bytes) h
+gives n limit bytes w h = one_outcome n limit _ _ w (outcome n limit bytes) h
 
 pub numbers_are_those : NumbersAreThose
 numbers_are_those n limit bytes xs = (given n limit bytes (Ok xs), gives n limit bytes (Ok xs))
@@ -193,7 +161,7 @@ pub faults_are_first : FaultsAreFirst
 faults_are_first n limit bytes f = (given n limit bytes (Err f), gives n limit bytes (Err f))
 
 some_outcome : (n limit : ℕ) (lines : List (List ℕ)) → (w : Result (List ℕ) NumbersFault) × IsOutcome n limit lines w
-some_outcome n limit lines = (after_these [] (numbers_from n limit 1 0 lines), walk n limit lines lines 0 [] (none_read n limit lines))
+some_outcome n limit lines = (after_these [] _, walk n limit lines lines 0 [] (none_read n limit lines))
 
 pub outcomes_are_one : OutcomesAreOne
 outcomes_are_one = record { some = some_outcome; one = one_outcome }
@@ -202,4 +170,4 @@ outcomes_are_one = record { some = some_outcome; one = one_outcome }
 pub listed : (n limit : ℕ) (bytes : List ℕ) (r : Result (List ℕ) NumbersError) → AreRead (numbers_of n limit bytes) r → AreListed n limit bytes r
 listed n limit bytes (Ok xs) h = given n limit bytes (Ok xs) h
 listed n limit bytes (Err (error.Fault f)) h = given n limit bytes (Err f) h
-listed n limit bytes (Err error.Memory) h = tt
+listed n limit bytes _ h = tt

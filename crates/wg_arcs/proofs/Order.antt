@@ -1,7 +1,7 @@
 -- Which arc comes after those of a graph.
-use Rattle.std.proofs.Common.{◌≡◌, ℕ, suc, ◌+◌, ◌-◌, ◌<◌, true, false, ltb, List, [], ◌∷◌, ◌++◌, map, length, take, get_or, Option, Some, None, refl, sym, ap, subst, ◌∙◌, arith, inl, inr, eq-eqb, ne_eqb}
+use Rattle.std.proofs.Common.{◌≡◌, ℕ, suc, ◌+◌, ◌-◌, ◌<◌, true, ltb, List, [], ◌∷◌, ◌++◌, map, length, take, get_or, Option, Some, None, refl, sym, ap, subst, ◌∙◌, arith, inl, inr, eq-eqb}
 use Rattle.std.specs.List.{last_or}
-use Rattle.std.proofs.lemmas.Bool.{cases_lt, cases_eq, lt-ltb, le-ltb, ltb-true, lt-leb}
+use Rattle.std.proofs.lemmas.Bool.{cases_lt, lt-ltb, le-ltb, ltb-true, lt-leb}
 use Rattle.std.proofs.lemmas.List.{get_or_past, length-take-le}
 use Rattle.wg_params.specs.declared.limits.TheConstants.{MOST_ARCS}
 use Rattle.wg_graph.specs.Ascending.{Ascends, Below}
@@ -17,7 +17,7 @@ Arc = ℕ × ℕ
 
 pub last_or-append : (o : Option Arc) (xs ys : List Arc) → last_or o (xs ++ ys) ≡ last_or (last_or o xs) ys
 last_or-append o [] ys = refl
-last_or-append o (x ∷ xs) ys = last_or-append (Some x) xs ys
+last_or-append o (x ∷ xs) ys = last_or-append _ xs ys
 
 last_or-map : (o : Option Arc) (m b : ℕ) (bs : List ℕ) → last_or o (map (λ v. (m, v)) (b ∷ bs)) ≡ Some (m, get_or (b ∷ bs) (length bs) 0)
 last_or-map o m b [] = refl
@@ -25,16 +25,13 @@ last_or-map o m b (c ∷ bs) = last_or-map (Some (m, b)) m c bs
 
 last_or-list : (o : Option Arc) (m : ℕ) (list : List ℕ) → 0 < length list → last_or o (map (λ v. (m, v)) list) ≡ Some (m, get_or list (length list - 1) 0)
 last_or-list o m [] some = absurd (omega arith)
-last_or-list o m (b ∷ bs) some = let e : suc (length bs) - 1 ≡ length bs = omega arith in last_or-map o m b bs ∙ ap (λ (k : ℕ). Some (m, get_or (b ∷ bs) k 0)) (sym e)
+last_or-list o m (b ∷ bs) some = let e : suc _ - 1 ≡ length bs = omega arith in last_or-map o m b bs ∙ ap (λ (k : ℕ). Some (m, get_or (b ∷ bs) k 0)) (sym e)
 
 pub before_lower : (m t x v : ℕ) → m < x → is_before (m, t) (x, v) ≡ true
 before_lower m t x v lt = rw (lt-ltb m x lt) refl
 
 pub before_same : (m t x v : ℕ) → m ≡ x → is_before (m, t) (x, v) ≡ ltb t v
 before_same m t x v e = rw (le-ltb m x (omega arith), eq-eqb m x e) refl
-
-before_higher : (m t x v : ℕ) → x < m → is_before (m, t) (x, v) ≡ false
-before_higher m t x v lt = rw (le-ltb m x (omega arith), ne_eqb m x (λ e. omega arith)) refl
 
 -- one page's arcs by their second numbers
 pub before_next : (u v w : ℕ) → v < w → is_before (u, v) (u, w) ≡ true
@@ -57,20 +54,11 @@ ends_at g m size ends =
       some = some;
       last = refl;
       arc = ap (λ (ls : List (List ℕ)). last_or None (arcs_from 0 ls)) (split_last g.lists m size) ∙ ap (last_or None) (last_list init (successors g m) m (length-take-le m g.lists (omega arith)))
-          ∙ last_or-append None (arcs_from 0 init) (map (λ v. (m, v)) (successors g m)) ∙ last_or-list (last_or None (arcs_from 0 init)) m (successors g m) some;
+          ∙ last_or-append None (arcs_from 0 init) _ ∙ last_or-list _ m (successors g m) some;
     }
 
 after_arc : (g : Digraph) (m t x v : ℕ) → ((y : ℕ) → Ascends 0 (successors g y)) → EndsAtArc g m t → is_before (m, t) (x, v) ≡ true → ComesAfter g x v
-after_arc g m t x v up h b =
-    let size = h.size in
-    let past = past_last (successors g m) t v (up m) h.some h.last in
-    elim (cases_lt m x) [
-      | inl lt ↦ record { not_past = omega arith; above = subst (Below v) (sym (get_or_past g.lists x [] (omega arith))) tt }
-      | inr le ↦ elim (cases_eq m x) [
-        | inl e ↦ record { not_past = omega arith; above = subst (λ (k : ℕ). Below v (successors g k)) e (past.0 (ltb-true t v (sym (before_same m t x v e) ∙ b))) }
-        | inr ne ↦ absurd (let no : is_before (m, t) (x, v) ≡ false = before_higher m t x v (omega arith) in cc)
-      ]
-    ]
+after_arc g m t x v up h b = grind (arith, ltb-true, get_or_past, past_last)
 
 -- an arc that comes after the last one comes after all
 pub after_all : (g : Digraph) (x v : ℕ) → ((y : ℕ) → Ascends 0 (successors g y)) → (0 < length g.lists → 0 < length (successors g (length g.lists - 1))) → is_after (last_or None (arcs_of g)) (x, v) ≡ true → ComesAfter g x v
@@ -79,7 +67,7 @@ after_all g x v up ends b =
       | inl some ↦
           let m : ℕ = length g.lists - 1 in
           let h = ends_at g m (omega arith) ends in
-          let t : ℕ = get_or (successors g m) (length (successors g m) - 1) 0 in
+          let t : ℕ = get_or (successors g m) _ 0 in
           after_arc g m t x v up h (ap (λ (o : Option Arc). is_after o (x, v)) (sym h.arc) ∙ b)
       | inr none ↦ record { not_past = omega arith; above = subst (Below v) (sym (get_or_past g.lists x [] (omega arith))) tt }
     ]

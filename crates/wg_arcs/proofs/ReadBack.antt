@@ -30,12 +30,12 @@ bare a = decimal a.0 ++ 32 ∷ decimal a.1
 
 pub with_end : (a : Arc) (rest : List ℕ) → arc_line a ++ rest ≡ bare a ++ 10 ∷ rest
 with_end a rest =
-    ap (λ (l : List ℕ). l ++ 10 ∷ [] ++ rest) (append_assoc (decimal a.0) (32 ∷ []) (decimal a.1)) ∙ append_assoc (bare a) (10 ∷ []) rest
+    ap (λ (l : List ℕ). l ++ 10 ∷ [] ++ rest) (append_assoc (decimal a.0) _ _) ∙ append_assoc (bare a) _ rest
 
 bare_high : (a : Arc) → a.0 < 2 ^ 64 → a.1 < 2 ^ 64 → All (λ b. 32 ≤ b) (bare a)
 bare_high a s t =
-    All-append (λ b. 32 ≤ b) (decimal a.0) (32 ∷ decimal a.1) (decimal_plain a.0 s)
-    (All-cons (λ b. 32 ≤ b) 32 (decimal a.1) (omega arith) (decimal_plain a.1 t))
+    All-append (λ b. 32 ≤ b) _ _ (decimal_plain a.0 s)
+    (All-cons (λ b. 32 ≤ b) 32 _ (omega arith) (decimal_plain a.1 t))
 
 pub not_blank : (b : ℕ) → 48 ≤ b → is_blank b ≡ false
 not_blank b h = rw (ne_eqb b 32 (λ e. omega arith), ne_eqb b 9 (λ e. omega arith)) refl
@@ -43,16 +43,14 @@ not_blank b h = rw (ne_eqb b 32 (λ e. omega arith), ne_eqb b 9 (λ e. omega ari
 words_of_bare : (a : Arc) → a.0 < 2 ^ 64 → a.1 < 2 ^ 64 → words_of (bare a) ≡ decimal a.0 ∷ decimal a.1 ∷ []
 unfolding words_of
 words_of_bare a s t =
-    let plain : (n : ℕ) → n < 2 ^ 64 → All (λ b. is_blank b ≡ false) (decimal n) = λ n small. All-weaker (λ b. 48 ≤ b) (λ b. is_blank b ≡ false) not_blank (decimal n) (digits_high n small) in
+    let plain : (n : ℕ) → n < 2 ^ 64 → All (λ b. is_blank b ≡ false) (decimal n) = λ n small. All-weaker _ (λ b. is_blank b ≡ false) not_blank (decimal n) (digits_high n small) in
     let parts : slice_split is_blank (bare a) ≡ decimal a.0 ∷ decimal a.1 ∷ [] =
-    slice_split_at is_blank (decimal a.0) 32 (decimal a.1) (plain a.0 s) refl ∙ ap (λ (l : List (List ℕ)). decimal a.0 ∷ l) (slice_split_none is_blank (decimal a.1) (plain a.1 t)) in
-    let some : (n : ℕ) → n < 2 ^ 64 → eqb (length (decimal n)) 0 ≡ false = λ n small. ne_eqb (length (decimal n)) 0 (λ e. omega (arith, decimal_nonempty n small)) in
+    slice_split_at is_blank _ 32 (decimal a.1) (plain a.0 s) refl ∙ ap (λ (l : List (List ℕ)). decimal a.0 ∷ l) (slice_split_none is_blank (decimal a.1) (plain a.1 t)) in
+    let some : (n : ℕ) → n < 2 ^ 64 → eqb (length (decimal n)) 0 ≡ false = λ n small. ne_eqb (length (decimal n)) 0 (λ e. omega (arith, decimal_nonempty)) in
     rw (parts, some a.0 s, some a.1 t) refl
 
 pub not_skipped : (a : Arc) → a.0 < 2 ^ 64 → a.1 < 2 ^ 64 → is_skipped (words_of (bare a)) ≡ false
-not_skipped a s t =
-    let high = digits_high a.0 s 0 0 (decimal_nonempty a.0 s) in
-    rw (words_of_bare a s t) (ne_eqb (get_or (decimal a.0) 0 0) 35 (λ e. omega arith))
+not_skipped a s t = grind (arith, decimal_nonempty, digits_high, words_of_bare)
 
 pub arc_in_bare : (a : Arc) → a.0 < 2 ^ 64 → a.1 < 2 ^ 64 → arc_in (words_of (bare a)) ≡ Some a
 arc_in_bare a s t = rw (words_of_bare a s t, number_of-decimal a.0 s, number_of-decimal a.1 t) refl
@@ -62,8 +60,7 @@ arc_at_bare a s t = rw (not_skipped a s t, arc_in_bare a s t) refl
 
 -- the first line of a text, in its plain form
 pub plain_line : (a : Arc) (rest : List ℕ) → a.0 < 2 ^ 64 → a.1 < 2 ^ 64 → lines_of (arc_line a ++ rest) ≡ bare a ∷ lines_of rest
-plain_line a rest s t =
-    ap lines_of (with_end a rest) ∙ line_read (bare a) rest (bare_high a s t)
+plain_line a rest s t = ap lines_of (with_end a rest) ∙ line_read _ rest (bare_high a s t)
 
 pub plain_fault : (n count : ℕ) (last : Option Arc) (a : Arc) → a.0 < 2 ^ 64 → a.1 < 2 ^ 64 → fault_after n last count (bare a) ≡ refusal_after n last count (Some a)
 plain_fault n count last a s t = rw (not_skipped a s t, arc_in_bare a s t) refl
@@ -73,17 +70,14 @@ plain_fault n count last a s t = rw (not_skipped a s t, arc_in_bare a s t) refl
 lines_back : (m n : ℕ) (arcs : List Arc) → m ≤ 2 ^ 64 → n ≤ 2 ^ 64 → Within m n arcs → lines_of (text_of_arcs arcs) ≡ map bare arcs
 lines_back m n [] ml nl h = no_lines [] refl
 lines_back m n (a ∷ arcs) ml nl h =
-    let s : a.0 < 2 ^ 64 = omega (arith, h.0) in
-    let t : a.1 < 2 ^ 64 = omega (arith, h.1) in
-    plain_line a (text_of_arcs arcs) s t ∙ ap (λ (ls : List (List ℕ)). bare a ∷ ls) (lines_back m n arcs ml nl h.2)
+    let s : a.0 < 2 ^ 64 = omega arith in
+    let t : a.1 < 2 ^ 64 = omega arith in
+    plain_line a _ s t ∙ ap (λ (ls : List (List ℕ)). bare a ∷ ls) (lines_back m n arcs ml nl h.2)
 
 arcs_back : (m n : ℕ) (arcs : List Arc) → m ≤ 2 ^ 64 → n ≤ 2 ^ 64 → Within m n arcs → arcs_in (map bare arcs) ≡ arcs
 arcs_back m n [] ml nl h = refl
 arcs_back m n (a ∷ arcs) ml nl h =
-    let s : a.0 < 2 ^ 64 = omega (arith, h.0) in
-    let t : a.1 < 2 ^ 64 = omega (arith, h.1) in
-    let here = arc_at_bare a s t in
-    rw here (ap (λ (l : List Arc). a ∷ l) (arcs_back m n arcs ml nl h.2))
+    rw (arc_at_bare a (omega arith) (omega arith)) (ap (λ (l : List Arc). a ∷ l) (arcs_back m n arcs ml nl h.2))
 
 within_front : (m n : ℕ) (arcs : List Arc) (i : ℕ) → Within m n arcs → Within m n (take i arcs)
 within_front m n arcs zero h = tt
@@ -95,8 +89,8 @@ fine_at n arcs i nl few h climbs lt =
     let d : Arc = (0, 0) in
     let a : Arc = get_or arcs i d in
     let w = within_at n n arcs i d h lt in
-    let s : a.0 < 2 ^ 64 = omega (arith, w.0) in
-    let t : a.1 < 2 ^ 64 = omega (arith, w.1) in
+    let s : a.0 < 2 ^ 64 = omega arith in
+    let t : a.1 < 2 ^ 64 = omega arith in
     let line : get_or (map bare arcs) i [] ≡ bare a = get_or-map bare arcs i d [] lt in
     let front : arcs_in (take i (map bare arcs)) ≡ take i arcs = ap arcs_in (take-map bare i arcs) ∙ arcs_back n n (take i arcs) nl nl (within_front n n arcs i h) in
     let size = length-take-le i arcs (omega arith) in

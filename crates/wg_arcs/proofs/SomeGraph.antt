@@ -2,13 +2,11 @@
 use Rattle.std.proofs.Common.{◌≡◌, ℕ, ◌+◌, ◌-◌, ◌⊎◌, List, [], ◌∷◌, ◌++◌, length, get_or, replicate, Option, Some, None, Result, Ok, Err, refl, sym, subst, arith, inl, inr, append-nil, length-append}
 use Rattle.std.specs.Prelude.{option_to_list}
 use Rattle.std.specs.List.{All, last_or}
-use Rattle.std.proofs.lemmas.Bool.{cases_Bool, cases_lt, le-leb, lt-leb, le-ltb}
-use Rattle.std.proofs.lemmas.Option.{none-some}
+use Rattle.std.proofs.lemmas.Bool.{cases_Bool}
 use Rattle.std.proofs.lemmas.List.{get_or_past}
-use Rattle.std.proofs.lemmas.List.Elements.{All-get_or, All-set, All-append, All-replicate}
+use Rattle.std.proofs.lemmas.List.Elements.{All-set, All-append, All-replicate}
 use Rattle.wg_num.specs.Lines.{lines_of}
 use Rattle.wg_num.specs.Words.{words_of}
-use Rattle.wg_params.specs.declared.limits.TheConstants.{MOST_ARCS}
 use Rattle.wg_graph.specs.Ascending.{Ascends, Below}
 use Rattle.wg_graph.specs.Digraph.{Digraph, IsGraph}
 use Rattle.wg_graph.specs.Arcs.{arcs_of, arcs_from}
@@ -17,9 +15,8 @@ use Rattle.wg_graph.proofs.Arcs.{with_arc_arcs, length-arcs_from, padded_arcs_fr
 use Rattle.wg_graph.proofs.Prefixes.{length-padded, length-with_arc, with_arc_here}
 use Rattle.wg_graph.proofs.Sets.{ascends_push, below_push}
 use Rattle.wg_arcs.specs.declared.fault.ArcsKind.{ArcsKind}
-use Rattle.wg_arcs.specs.declared.fault.ArcsKind.TheVariants as kind
 use Rattle.wg_arcs.specs.Growing.{Begins, MayCome, SoFar}
-use Rattle.wg_arcs.specs.Reading.{is_skipped, arc_in, arc_at, is_after, refusal_after, fault_of, IsListed}
+use Rattle.wg_arcs.specs.Reading.{is_skipped, arc_at, refusal_after, fault_of, IsListed}
 use Rattle.wg_arcs.specs.Laws.{TextsAreSome}
 use Rattle.wg_arcs.proofs.Order.{Arc, after_all}
 use Rattle.wg_arcs.proofs.Soundness.{so_far_none, so_far_more, first_fault, all_read}
@@ -33,14 +30,13 @@ pub begins_none : (n : ℕ) → Begins n []
 begins_none n = record { begun = omega arith; ascending = λ i d lt. absurd (omega arith); below = λ i d lt. absurd (omega arith); ends = λ some. absurd (omega arith) }
 
 pub at_page : (P : List ℕ → Type 0) (lists : List (List ℕ)) (x : ℕ) → All P lists → P [] → P (get_or lists x [])
-at_page P lists x all none =
-    elim (cases_lt x (length lists)) [ inl lt ↦ All-get_or P lists x [] lt all | inr le ↦ subst P (sym (get_or_past lists x [] le)) none ]
+at_page P lists x all none = grind (arith, get_or_past)
 
 -- an arc that may come next may be added
 pub follows_on : (g : Digraph) (a : Arc) → Begins g.nodes g.lists → MayCome g.nodes (last_or None (arcs_of g)) (length (arcs_of g)) a → FollowsOn g a.0 a.1
 follows_on g a h m =
     let next = after_all g a.0 a.1 (λ y. at_page (Ascends 0) g.lists y h.ascending tt) h.ends m.after in
-    record { source = m.source; target = m.target; not_past = next.not_past; above = next.above; room = omega (arith, m.room, length-arcs_from 0 g.lists) }
+    record { source = m.source; target = m.target; not_past = next.not_past; above = next.above; room = omega (arith, length-arcs_from) }
 
 pub begins_more : (g : Digraph) (x v : ℕ) → Begins g.nodes g.lists → FollowsOn g x v → Begins g.nodes (with_arc g.lists x v)
 begins_more g x v h after =
@@ -48,7 +44,6 @@ begins_more g x v h after =
     let k : ℕ = x + 1 - length lists in
     let old : List ℕ = get_or lists x [] in
     let size = length-with_arc lists x v after.not_past in
-    let source = after.source in
     let asc : Ascends 0 (old ++ v ∷ []) = ascends_push 0 v old (omega arith) (at_page (Ascends 0) lists x h.ascending tt) after.above in
     let low : Below g.nodes (old ++ v ∷ []) = below_push g.nodes v old after.target (at_page (Below g.nodes) lists x h.below tt) in
     let last : length (with_arc lists x v) - 1 ≡ x = omega arith in
@@ -72,28 +67,14 @@ filled n lists h =
 -- ---- a line without a fault
 
 taken : (n count : ℕ) (last o : Option Arc) → refusal_after n last count o ≡ None → (a : Arc) × (o ≡ Some a) × MayCome n last count a
-taken n count last None fine = absurd (none-some kind.Shape (sym fine))
-taken n count last (Some a) fine =
-    elim (cases_lt a.0 n) [
-      | inr le ↦ absurd (none-some kind.Range (sym (rw (le-leb n a.0 le) at fine)))
-      | inl source ↦ elim (cases_lt a.1 n) [
-        | inr le ↦ absurd (none-some kind.Range (sym (rw (lt-leb n a.0 source, le-leb n a.1 le) at fine)))
-        | inl target ↦ elim (cases_Bool (is_after last a)) [
-          | inr late ↦ absurd (none-some kind.Order (sym (rw (lt-leb n a.0 source, lt-leb n a.1 target, late) at fine)))
-          | inl after ↦ elim (cases_lt count MOST_ARCS) [
-            | inr full ↦ absurd (none-some kind.TooMany (sym (rw (lt-leb n a.0 source, lt-leb n a.1 target, after, le-ltb count MOST_ARCS full) at fine)))
-            | inl room ↦ (a, refl, record { source = source; target = target; after = after; room = room })
-          ]
-        ]
-      ]
-    ]
+taken n count last o h = grind arith
 
 -- it has no arc, or one that may come next
 pub fine_line : (n : ℕ) (before : List Arc) (text : List ℕ) → fault_of n before text ≡ None → (arc_at text ≡ None) ⊎ ((a : Arc) × (arc_at text ≡ Some a) × MayCome n (last_or None before) (length before) a)
 fine_line n before text fine =
     elim (cases_Bool (is_skipped (words_of text))) [
       | inl skipped ↦ inl (rw skipped refl)
-      | inr read ↦ (let t = taken n (length before) (last_or None before) (arc_in (words_of text)) (rw read at fine) in inr (t.0, rw read t.1, t.2))
+      | inr read ↦ (let t = taken n _ _ _ (rw read at fine) in inr (t.0, rw read t.1, t.2))
     ]
 
 -- ---- all lines

@@ -11,11 +11,7 @@ same_bytes : (a b c d p q r s : ℕ) → a < 256 → b < 256 → c < 256 → d <
 same_bytes a b c d p q r s a' b' c' d' p' q' r' s' e = (omega arith, omega arith, omega arith, omega arith)
 
 any_of_four : (P : ℕ → Type 0) → P 0 → P 1 → P 2 → P 3 → (i : ℕ) → i < 4 → P i
-any_of_four P a b c d zero h = a
-any_of_four P a b c d (suc zero) h = b
-any_of_four P a b c d (suc (suc zero)) h = c
-any_of_four P a b c d (suc (suc (suc zero))) h = d
-any_of_four P a b c d (suc (suc (suc (suc i)))) h = absurd (omega arith)
+any_of_four P h h2 h3 h4 i h5 = grind arith
 
 pub same_at : (text other : List ℕ) (at n m : ℕ) → ((k : ℕ) → get_or text k 0 < 256) → ((k : ℕ) → get_or other k 0 < 256)
     → n ≡ from_le_bytes w32 (get_or text at 0 ∷ get_or text (at + 1) 0 ∷ get_or text (at + 2) 0 ∷ get_or text (at + 3) 0 ∷ [])
@@ -26,7 +22,7 @@ same_at text other at n m small low here there same =
     same_bytes _ _ _ _ _ _ _ _ (small at) (small (at + 1)) (small (at + 2)) (small (at + 3)) (low at) (low (at + 1))
     (low (at + 2)) (low (at + 3)) (sym here ∙ same ∙ there) in
     let z : at + 0 ≡ at = omega arith in
-    any_of_four (λ i. get_or text (at + i) 0 ≡ get_or other (at + i) 0) (rw z all.0) all.1 all.2 all.3
+    any_of_four _ (rw z all.0) all.1 all.2 all.3
 
 -- the first four bytes and the last four are the same, and so all are
 pub begins : (text front : List ℕ) → 4 ≤ length front → length front ≤ 8 → length front ≤ length text

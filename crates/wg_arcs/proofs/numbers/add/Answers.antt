@@ -1,5 +1,8 @@
-use Rattle.std.proofs.Common.{◌∷◌, [], length}
-use Rattle.wg_arcs.proofs.LineLemmas.{as_long, below_pushed, few_pushed, is_added, is_past, is_too_much, room_left}
+use Rattle.std.proofs.Common.{ℕ, List, ◌∷◌, [], length, ◌<◌, ◌≤◌, refl, sym, ap, subst, arith, lt-ltb}
+use Rattle.std.specs.List.{All}
+use Rattle.std.proofs.lemmas.Bool.{le-leb, lt-leb, le-ltb}
+use Rattle.std.proofs.lemmas.List.{length_push}
+use Rattle.std.proofs.lemmas.List.Elements.{All-push}
 use Rattle.wg_arcs.proofs.numbers.add.Goals as goal
 
 pub returns-then-number-limit : goal.returns-then-number-limit
@@ -7,18 +10,18 @@ returns-then-number-limit c = record {
   added = tt;
   few = tt;
   below = tt;
-  err = is_past c.args.n c.args.limit c.args.line (length c.args.numbers.now) c.args.number c.if-number-limit.true;
+  err = rw (le-leb c.args.limit c.args.number c.if-number-limit.true) refl;
 }
 
 pub returns-then-as_slice-n : goal.returns-then-as_slice-n
-returns-then-as_slice-n c = record {
-  added = tt;
-  few = tt;
-  below = tt;
-  err =
-      is_too_much c.args.n c.args.limit c.args.line (length c.args.numbers.now) c.args.number c.if-number-limit.false
-      (as_long c.args.n c.args.numbers.now c.as_slice.result.now c.as_slice.ensures c.if-as_slice-n.true);
-}
+returns-then-as_slice-n c =
+    let full = subst (λ (l : List ℕ). c.args.n ≤ length l) c.as_slice.ensures c.if-as_slice-n.true in
+    record {
+      added = tt;
+      few = tt;
+      below = tt;
+      err = rw (lt-leb c.args.limit c.args.number c.if-number-limit.false, le-ltb _ c.args.n full) refl;
+    }
 
 pub returns : goal.returns
 returns c =
@@ -26,10 +29,12 @@ returns c =
     let old = c.args.numbers.now in
     let v = c.args.number in
     let more = c.in_ok-push.ensures.ok in
-    let room = room_left n old c.as_slice.result.now c.as_slice.ensures c.if-as_slice-n.false in
+    let room = subst (λ (l : List ℕ). length l < n) c.as_slice.ensures c.if-as_slice-n.false in
     record {
-      added = (v ∷ [], is_added n c.args.limit c.args.line (length old) v c.if-number-limit.false room, more);
-      few = few_pushed n v old c.push.new.self more room;
-      below = below_pushed c.args.limit v old c.push.new.self more c.if-number-limit.false;
+      added = (v ∷ [], rw (lt-leb c.args.limit v c.if-number-limit.false, lt-ltb _ n room) refl, more);
+      few = omega (arith, ap length more, length_push);
+      below = λ h.
+          subst (λ (l : List ℕ). All (λ x. x < c.args.limit) l) (sym more)
+          (All-push (λ x. x < c.args.limit) old v h c.if-number-limit.false);
       err = tt;
     }

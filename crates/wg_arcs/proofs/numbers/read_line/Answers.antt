@@ -1,6 +1,5 @@
-use Rattle.std.proofs.Common.{◌≤◌, List, ℕ, [], Result, None, Some, OnOk, IfErr, length, refl, sym, subst, append-nil}
+use Rattle.std.proofs.Common.{◌≤◌, List, ℕ, [], Result, None, OnOk, IfErr, length, refl, sym, subst, append-nil}
 use Rattle.std.proofs.lemmas.Result.{on_ok_weaker}
-use Rattle.wg_num.specs.Words.{words_of}
 use Rattle.wg_arcs.specs.Numbers.{AreAdded, IsRefused}
 use Rattle.wg_arcs.specs.declared.numbers_fault.NumbersFault.{NumbersFault}
 use Rattle.wg_arcs.proofs.LineLemmas.{entry_judged}
@@ -21,11 +20,11 @@ returns-in-Some-sole_number c =
     let r = c.add.result in
     let old = c.args.numbers.now in
     let same =
-    sym (entry_judged c.args.text.now c.in-Some.words.0.now (words_of c.in-Some.words.1.now) w.words w.skipped
-    c.args.n c.args.limit c.args.line (length old) (Some c.in-Some-sole_number.number) c.in-Some-sole_number.ensures) in
+    sym (entry_judged c.args.text.now c.in-Some.words.0.now _ w.words w.skipped
+    c.args.n c.args.limit c.args.line _ _ c.in-Some-sole_number.ensures) in
     record {
       added = subst (λ (t : Result (List ℕ) NumbersFault). OnOk r (AreAdded t old c.add.new.numbers)) same n.added;
-      few = on_ok_weaker r (λ (few : length c.add.new.numbers ≤ c.args.n) (le : length old ≤ c.args.n). few) n.few;
+      few = on_ok_weaker r (λ (few : length c.add.new.numbers ≤ c.args.n) _. few) n.few;
       below = n.below;
       err = subst (λ (t : Result (List ℕ) NumbersFault). IfErr r (IsRefused t)) same n.err;
     }
@@ -38,6 +37,6 @@ returns-in-None-sole_number c =
       few = tt;
       below = tt;
       err =
-          entry_judged c.args.text.now c.in-Some.words.0.now (words_of c.in-Some.words.1.now) w.words w.skipped
-          c.args.n c.args.limit c.args.line (length c.args.numbers.now) None c.in-None-sole_number.ensures;
+          entry_judged c.args.text.now c.in-Some.words.0.now _ w.words w.skipped
+          c.args.n c.args.limit c.args.line _ None c.in-None-sole_number.ensures;
     }

@@ -1,11 +1,10 @@
-use Rattle.std.proofs.Common.{◌≡◌, ℕ, ◌+◌, ◌<◌, ◌≤◌, List, length, ap, subst, refl, arith, Ok, Err}
+use Rattle.std.proofs.Common.{sym, ◌≡◌, ℕ, ◌<◌, ◌≤◌, List, length, ap, subst, arith, Ok, Err}
+use Rattle.std.proofs.lemmas.Bool.{eqb-true}
 use Rattle.wg_outside.proofs.PutsLemmas.{is_that_err}
-use Rattle.wg_num.specs.Lines.{lines_of}
 use Rattle.wg_num.proofs.Cuts.{no_lines}
 use Rattle.wg_arcs.specs.declared.numbers_fault.NumbersError.TheVariants as error
 use Rattle.wg_arcs.specs.declared.numbers_fault.NumbersFault.TheVariants as fault
 use Rattle.wg_arcs.specs.Numbers.{numbers_of, AreRead}
-use Rattle.wg_arcs.proofs.LineLemmas.{as_many, is_empty, line_on}
 use Rattle.wg_arcs.proofs.NumberLines.{listed}
 use Rattle.wg_arcs.proofs.ReadNumbers.{begun, ended, refused, step, too_few}
 use Rattle.wg_arcs.proofs.numbers.read_numbers.Goals as goal
@@ -14,7 +13,7 @@ pub lines-init : goal.lines-init
 lines-init c = record {
   so_far = rw c.new-numbers.ensures (begun c.args.n c.args.limit c.args.bytes.now);
   few = rw c.new-numbers.ensures (omega arith);
-  below = rw c.new-numbers.ensures (λ k d h. absurd (omega (arith, h)));
+  below = rw c.new-numbers.ensures (λ k d h. absurd (omega arith));
   short = omega arith;
 }
 
@@ -24,12 +23,12 @@ lines-preserved c =
     let r = c.in_ok-read_line.ensures in
     record {
       so_far =
-          step c.args.n c.args.limit (c.lines.line + 1) _ c.lines.numbers r.added.0 c.read_line.new.numbers
-          c.first_line.result.0.now (lines_of c.lines.rest.now) (lines_of c.first_line.result.1.now)
+          step c.args.n c.args.limit _ _ c.lines.numbers r.added.0 c.read_line.new.numbers
+          c.first_line.result.0.now _ _
           c.first_line.ensures.lines i.so_far r.added.1 r.added.2;
       few = r.few i.few;
       below = r.below i.below;
-      short = line_on _ c.lines.line _ _ _ i.short refl c.first_line.ensures.shorter;
+      short = omega arith;
     }
 
 pub returns-in_err-read_line : goal.returns-in_err-read_line
@@ -37,8 +36,8 @@ returns-in_err-read_line c =
     let all = numbers_of c.args.n c.args.limit c.args.bytes.now in
     let e = c.in_err-read_line.field-0.0 in
     let read : AreRead all (Err e) =
-    refused c.args.n c.args.limit (c.lines.line + 1) all c.lines.numbers c.first_line.result.0.now
-    (lines_of c.lines.rest.now) (lines_of c.first_line.result.1.now) e c.first_line.ensures.lines
+    refused c.args.n c.args.limit _ all c.lines.numbers c.first_line.result.0.now
+    _ _ e c.first_line.ensures.lines
     c.lines.invariant.so_far c.in_err-read_line.ensures.err in
     rw (is_that_err c.from_residual.result _ c.from_residual.ensures.1) record {
       read = read;
@@ -53,8 +52,8 @@ returns-then-found-n c =
     let found : length c.as_slice.result.now ≡ length c.lines.numbers = ap length c.as_slice.ensures in
     let read : all ≡ Err (fault.Count (length c.as_slice.result.now)) =
     rw found
-    (too_few c.args.n c.args.limit (c.lines.line + 1) all c.lines.numbers (lines_of c.lines.rest.now)
-    (no_lines c.lines.rest.now (is_empty _ c.lines-test.ensures))
+    (too_few c.args.n c.args.limit _ all c.lines.numbers _
+    (no_lines c.lines.rest.now (eqb-true _ 0 (sym c.lines-test.ensures)))
     (subst (λ (k : ℕ). k < c.args.n) found c.if-found-n.true) c.lines.invariant.so_far) in
     record {
       read = read;
@@ -71,11 +70,11 @@ returns c =
     let enough : c.args.n ≤ length c.lines.numbers =
     subst (λ (l : List ℕ). c.args.n ≤ length l) c.as_slice.ensures c.if-found-n.false in
     let read : all ≡ Ok c.lines.numbers =
-    ended c.args.n c.args.limit (c.lines.line + 1) all c.lines.numbers (lines_of c.lines.rest.now)
-    (no_lines c.lines.rest.now (is_empty _ c.lines-test.ensures)) enough c.lines.invariant.so_far in
+    ended c.args.n c.args.limit _ all c.lines.numbers _
+    (no_lines c.lines.rest.now (eqb-true _ 0 (sym c.lines-test.ensures))) enough c.lines.invariant.so_far in
     record {
       read = read;
       listed = listed c.args.n c.args.limit c.args.bytes.now (Ok c.lines.numbers) read;
-      count = as_many _ _ enough c.lines.invariant.few;
+      count = omega arith;
       below = c.lines.invariant.below;
     }

@@ -1,4 +1,3 @@
-use Rattle.std.proofs.Common.{decimal}
 use Rattle.wg_arcs.proofs.LineLemmas.{after_number, plain_text}
 use Rattle.wg_arcs.proofs.plain.plain_arc.Goals as goal
 
@@ -28,6 +27,6 @@ returns-clause-line c =
     let from = c.in_ok-from.from in
     let to = c.in_ok-to.to in
     plain_text from to text second rest
-    (after_number text second (decimal from) c.in_ok-from.from_end 32 c.in_ok-from.ensures.digits
+    (after_number text second _ c.in_ok-from.from_end 32 c.in_ok-from.ensures.digits
     c.in_ok-second.ensures)
-    (after_number second rest (decimal to) c.in_ok-to.to_end 10 c.in_ok-to.ensures.digits c.in_ok-rest.ensures)
+    (after_number second rest _ c.in_ok-to.to_end 10 c.in_ok-to.ensures.digits c.in_ok-rest.ensures)

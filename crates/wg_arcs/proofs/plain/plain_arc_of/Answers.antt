@@ -1,4 +1,4 @@
-use Rattle.std.proofs.Common.{◌-◌, decimal, drop, length, refl, take}
+use Rattle.std.proofs.Common.{◌-◌, drop, length, refl, take}
 use Rattle.wg_arcs.proofs.LineLemmas.{after_number, after_start, plain_text}
 use Rattle.wg_arcs.proofs.plain.plain_arc_of.Goals as goal
 
@@ -20,7 +20,6 @@ returns-clause-line c =
     let start = c.args.start.now in
     let second = take (length text - length start) (drop (length start) text) in
     let rest = c.in_ok-rest.rest.now in
-    let to = c.in_ok-to.to in
-    plain_text c.args.page to text second rest
+    plain_text c.args.page c.in_ok-to.to text second rest
     (after_start c.args.page text start c.requires (c.if-not-begins_with.ensures.front refl))
-    (after_number second rest (decimal to) c.in_ok-to.to_end 10 c.in_ok-to.ensures.digits c.in_ok-rest.ensures)
+    (after_number second rest _ c.in_ok-to.to_end 10 c.in_ok-to.ensures.digits c.in_ok-rest.ensures)

@@ -15,7 +15,7 @@ follows : (g : Digraph) (o : Option Arc) (a : Arc) → o ≡ Some a → Begins g
 follows g o a is begun comes = follows_on g a begun (subst (λ (p : Option Arc). IfSome p (MayCome g.nodes (last_or None (arcs_of g)) (length (arcs_of g)))) is comes)
 
 pub push-requires : goal.push-requires
-push-requires c = follows c.args.builder.now c.args.arc (c.in-Some.u, c.in-Some.v) c.in-Some.is c.requires.begun c.requires.comes
+push-requires c = follows c.args.builder.now c.args.arc _ c.in-Some.is c.requires.begun c.requires.comes
 
 pub returns-in-Some-clause-begun : goal.returns-in-Some-clause-begun
 returns-in-Some-clause-begun c =

@@ -29,7 +29,7 @@ returns-in_err-arc c =
     let i = c.lines.invariant in
     let e = c.in_err-arc.field-0.0 in
     let p = err_from_is_err_and c.from_residual-in_err-arc.result c.from_residual-in_err-arc.ensures.1 in
-    rw (p.1, p.2) (read_err c.args.n c.lines.reading.nodes c.args.bytes.now e i.known (c.in_err-arc.ensures.fault all [] (arcs_of c.lines.builder) i.up))
+    rw (p.1, p.2) (read_err c.args.n c.lines.reading.nodes c.args.bytes.now e i.known (c.in_err-arc.ensures.fault all [] _ i.up))
 
 pub lines-preserved : goal.lines-preserved
 lines-preserved c =
@@ -40,8 +40,8 @@ lines-preserved c =
       nodes = c.in_ok-add.ensures.nodes ∙ i.nodes;
       begun = c.in_ok-add.ensures.begun;
       known = r.nodes ∙ i.known;
-      few = omega (arith, i.few, r.line, r.shorter);
-      up = subst (λ (arcs : List Arc). IsUpTo all (lines_of c.in_ok-arc.after.now ++ []) arcs c.read_first.new.self) (sym c.in_ok-add.ensures.arcs) (r.read all [] (arcs_of c.lines.builder) i.up);
+      few = omega arith;
+      up = subst (λ (arcs : List Arc). IsUpTo all (lines_of c.in_ok-arc.after.now ++ []) arcs c.read_first.new.self) (sym c.in_ok-add.ensures.arcs) (r.read all [] _ i.up);
     }
 
 pub returns : goal.returns

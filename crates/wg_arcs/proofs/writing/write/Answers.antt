@@ -9,11 +9,10 @@ use Rattle.wg_arcs.proofs.writing.write.Goals as goal
 
 pub loop-page-preserved : goal.loop-page-preserved
 loop-page-preserved g c =
-    let n = c.nodes-page-end.ensures.proper.counted in
     let taken = g.S.Sink.taken in
     record {
       out = λ t.
-          page_out (taken c.args.sink.now) (taken c.loop-page.sink) (taken c.write_list.new.sink) c.args.graph.now c.loop-page.page (omega arith) (c.loop-page.invariant.out t)
+          page_out (taken c.args.sink.now) _ _ c.args.graph.now c.loop-page.page (omega arith) (c.loop-page.invariant.out t)
           (subst (λ (vs : List ℕ). taken c.write_list.new.sink ≡ taken c.loop-page.sink ++ page_lines c.loop-page.page vs) c.list.ensures.value (c.in_ok-write_list.ensures.puts t));
       later = g.met.S.Sink.goes_on _ _ _ c.loop-page.invariant.later c.in_ok-write_list.ensures.later;
     }
@@ -21,7 +20,6 @@ loop-page-preserved g c =
 pub returns-in_err-write_list : goal.returns-in_err-write_list
 returns-in_err-write_list g c = record {
   puts = λ t.
-      let n = c.nodes-page-end.ensures.proper.counted in
       let taken = g.S.Sink.taken in
       let e : WriteError = c.in_err-write_list.field-0.0 in
       page_cut_off (taken c.args.sink.now) (taken c.loop-page.sink) (taken c.write_list.new.sink) c.args.graph.now c.loop-page.page c.from_residual.result e (omega arith) (c.loop-page.invariant.out t) c.from_residual.ensures.1
@@ -33,7 +31,6 @@ returns-in_err-write_list g c = record {
 
 pub returns-clause-puts : goal.returns-clause-puts
 returns-clause-puts g c t =
-    let n = c.nodes-page-end.ensures.proper.counted in
     let all : take c.loop-page.page c.args.graph.now.lists ≡ c.args.graph.now.lists = take_all c.loop-page.page c.args.graph.now.lists (omega arith) in
     c.loop-page.invariant.out t ∙ ap (λ (ls : List (List ℕ)). g.S.Sink.taken c.args.sink.now ++ lines_from 0 ls) all
 

@@ -1,11 +1,11 @@
-use Rattle.std.proofs.Common.{◌≡◌, ◌∙◌, ◌++◌, inl, inr, false, ℕ, List, Option, Some, None, sym, subst, refl, append-nil}
-use Rattle.std.specs.Prelude.{is_some, option_to_list}
+use Rattle.std.proofs.Common.{◌≡◌, ◌∙◌, ◌++◌, inl, inr, false, ℕ, List, Option, None, sym, subst, refl, append-nil, arith, ◌<◌, length}
+use Rattle.std.proofs.lemmas.Bool.{eqb-true, eqb-false}
+use Rattle.std.specs.Prelude.{is_some}
 use Rattle.wg_outside.proofs.PutsLemmas.{is_that_err}
 use Rattle.wg_num.specs.Lines.{lines_of}
 use Rattle.wg_arcs.specs.Growing.{ArcLinesRead}
 use Rattle.wg_arcs.specs.Growing.{IsFirst, IsUpTo, SoFar}
 use Rattle.wg_arcs.specs.Listing.{AreListed, arcs_on}
-use Rattle.wg_arcs.proofs.LineLemmas.{all_left, is_left, line_fits, line_on, no_more, none_shorter, short_on, shorter_on}
 use Rattle.wg_arcs.proofs.ListedLemmas.{listed_line, up_to}
 use Rattle.wg_arcs.proofs.Order.{Arc}
 use Rattle.wg_arcs.proofs.arc_lines.ArcLines.fill.Goals as goal
@@ -19,7 +19,7 @@ read_on n all next arcs arcs' s nodes same up = subst (λ (m : ℕ). SoFar m all
 
 not_some : (o : Option Arc) → is_some o ≡ false → o ≡ None
 not_some None e = refl
-not_some (Some a) e = absurd (cc e)
+not_some _ e = absurd (cc e)
 
 pub returns-in_err-arc : goal.returns-in_err-arc
 returns-in_err-arc c =
@@ -32,8 +32,8 @@ returns-in_err-arc c =
       listed = λ done at h. tt;
       read = λ done all later at h so. tt;
       fault = λ done all later at h so.
-          let up = come_to c.args.self.now.nodes all (lines_of c.lines.rest.now ++ later) done c.lines.list c.lines.self i.nodes (i.listed done at h) (i.read done all later at h so) in
-          inr (subst (λ (n : ℕ). IsFirst n all e) i.nodes (c.in_err-arc.ensures.fault all later (arcs_on done c.lines.list) up));
+          let up = come_to c.args.self.now.nodes all _ done c.lines.list c.lines.self i.nodes (i.listed done at h) (i.read done all later at h so) in
+          inr (subst (λ (n : ℕ). IsFirst n all e) i.nodes (c.in_err-arc.ensures.fault all later _ up));
     }
 
 pub returns-in_err-next : goal.returns-in_err-next
@@ -53,8 +53,8 @@ returns-then-is_some c =
     let r = c.in_ok-arc.ensures in
     record {
       nodes = r.nodes ∙ i.nodes;
-      line = line_on _ c.lines.self.line _ _ _ i.line r.line r.shorter;
-      shorter = λ some. shorter_on _ _ _ r.shorter i.short;
+      line = omega (arith, r.shorter);
+      shorter = λ some. omega (arith, r.shorter);
       listed = λ done at h.
           (listed_line done c.lines.list c.lines.self c.read_next.new.self c.in_ok-arc.arc c.args.page c.put.new.list
           c.in_ok-next.next at (i.listed done at h) r.comes r.ok c.in_ok-next.ensures.list c.in_ok-next.ensures.later).0;
@@ -65,7 +65,7 @@ returns-then-is_some c =
           i.nodes before (i.read done all later at h so) in
           let line = listed_line done c.lines.list c.lines.self c.read_next.new.self c.in_ok-arc.arc c.args.page
           c.put.new.list c.in_ok-next.next at before r.comes r.ok c.in_ok-next.ensures.list c.in_ok-next.ensures.later in
-          read_on c.args.self.now.nodes all next (arcs_on done c.lines.list ++ option_to_list c.in_ok-arc.arc) _
+          read_on c.args.self.now.nodes all next _ _
           c.read_next.new.self (r.nodes ∙ i.nodes) line.1 (r.read all later (arcs_on done c.lines.list) up);
       fault = λ done all later at h so. tt;
     }
@@ -73,8 +73,8 @@ returns-then-is_some c =
 pub lines-init : goal.lines-init
 lines-init c = record {
   nodes = refl;
-  line = all_left _;
-  short = all_left _;
+  line = omega arith;
+  short = omega arith;
   listed = λ done at h. h;
   read = λ done all later at h so. so;
 }
@@ -85,20 +85,20 @@ returns c =
     record {
       nodes = i.nodes;
       line = i.line;
-      shorter = none_shorter _ _ c.lines-test.ensures;
+      shorter = λ some. omega (arith, eqb-true _ 0 (sym c.lines-test.ensures));
       listed = i.listed;
       read = λ done all later at h so.
-          no_more c.args.self.now.nodes c.lines.self.line all (lines_of c.lines.rest.now ++ later)
-          (arcs_on done c.lines.list) (i.read done all later at h so);
+          subst (λ (l : List Arc). SoFar c.args.self.now.nodes all (lines_of c.lines.rest.now ++ later) c.lines.self.line l)
+          (sym (append-nil _)) (i.read done all later at h so);
       fault = λ done all later at h so. tt;
     }
 
 pub read_next-requires : goal.read_next-requires
 read_next-requires c =
-    let some = is_left _ c.lines-test.ensures in
+    let some : 0 < length c.lines.rest.now = omega (arith, eqb-false _ 0 (sym c.lines-test.ensures)) in
     record {
       some = some;
-      line = line_fits c.lines.self.line _ _ c.lines.invariant.line c.requires some;
+      line = omega arith;
       start = c.write_start-count.ensures.start;
     }
 
@@ -112,8 +112,8 @@ lines-preserved c =
     let none : c.in_ok-next.next ≡ None = not_some c.in_ok-next.next (sym c.is_some.ensures ∙ c.if-is_some.false) in
     record {
       nodes = r.nodes ∙ i.nodes;
-      line = line_on _ c.lines.self.line _ _ _ i.line r.line r.shorter;
-      short = short_on _ _ _ r.shorter i.short;
+      line = omega (arith, i.line, r.line, r.shorter);
+      short = omega (arith, r.shorter, i.short);
       listed = λ done at h.
           (listed_line done c.lines.list c.lines.self c.read_next.new.self c.in_ok-arc.arc c.args.page c.put.new.list None at (i.listed done at h)
           r.comes r.ok c.in_ok-next.ensures.list (sym none ∙ c.in_ok-next.ensures.later)).0;
@@ -122,6 +122,6 @@ lines-preserved c =
           let up = come_to c.args.self.now.nodes all (lines_of c.lines.rest.now ++ later) done c.lines.list c.lines.self i.nodes (i.listed done at h) (i.read done all later at h so) in
           let line = listed_line done c.lines.list c.lines.self c.read_next.new.self c.in_ok-arc.arc c.args.page c.put.new.list None at (i.listed done at h)
           r.comes r.ok c.in_ok-next.ensures.list (sym none ∙ c.in_ok-next.ensures.later) in
-          read_on c.args.self.now.nodes all next (arcs_on done c.lines.list ++ option_to_list c.in_ok-arc.arc) _ c.read_next.new.self (r.nodes ∙ i.nodes) (sym (append-nil (arcs_on done c.put.new.list)) ∙ line.1)
+          read_on c.args.self.now.nodes all next _ _ c.read_next.new.self (r.nodes ∙ i.nodes) (sym (append-nil _) ∙ line.1)
           (r.read all later (arcs_on done c.lines.list) up);
     }

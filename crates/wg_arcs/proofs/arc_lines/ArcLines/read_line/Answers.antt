@@ -3,7 +3,7 @@ use Rattle.wg_outside.proofs.PutsLemmas.{is_that_err}
 use Rattle.wg_num.specs.Words.{words_of}
 use Rattle.wg_arcs.specs.Growing.{ArcLinesRead, IsRefusedLine}
 use Rattle.wg_arcs.specs.declared.fault.ArcsKind.{ArcsKind}
-use Rattle.wg_arcs.proofs.LineLemmas.{entry_arc, entry_fault, shape_refused}
+use Rattle.wg_arcs.proofs.LineLemmas.{entry_arc, entry_fault}
 use Rattle.wg_arcs.proofs.Order.{Arc}
 use Rattle.wg_arcs.proofs.arc_lines.ArcLines.read_line.Goals as goal
 
@@ -22,8 +22,6 @@ returns-in_err-take-in-Some-arc c =
     let s = c.args.self.now in
     let w = c.in-Some.ensures in
     let n = c.in_err-take-in-Some-arc.ensures in
-    let e = c.in_err-take-in-Some-arc.field-0.0 in
-    let a : Arc = (c.in-Some-arc.u, c.in-Some-arc.v) in
     rw (is_that_err c.from_residual.result _ c.from_residual.ensures.1) record {
       fine = tt;
       comes = tt;
@@ -31,9 +29,9 @@ returns-in_err-take-in-Some-arc c =
       ok = tt;
       nodes = n.nodes;
       err =
-          subst (λ (f : Option ArcsKind). IsRefusedLine (s.line + 1) f e)
-          (sym (entry_fault c.args.text.now c.in-Some.words.0.now (words_of c.in-Some.words.1.now) w.words w.skipped
-          s.nodes s.arcs s.last (Some a) c.in-Some-arc.ensures)) n.err;
+          subst (λ (f : Option ArcsKind). IsRefusedLine (s.line + 1) f c.in_err-take-in-Some-arc.field-0.0)
+          (sym (entry_fault c.args.text.now c.in-Some.words.0.now _ w.words w.skipped
+          s.nodes s.arcs s.last (Some ((c.in-Some-arc.u, c.in-Some-arc.v))) c.in-Some-arc.ensures)) n.err;
     }
 
 pub returns-in_ok-take-in-Some-arc : goal.returns-in_ok-take-in-Some-arc
@@ -65,7 +63,9 @@ returns-in-None-arc c =
       ok = tt;
       nodes = refl;
       err =
-          shape_refused (s.line + 1) _ c.fault.result c.fault.ensures
-          (entry_fault c.args.text.now c.in-Some.words.0.now (words_of c.in-Some.words.1.now) w.words w.skipped
-          s.nodes s.arcs s.last None c.in-None-arc.ensures);
+          rw c.fault.ensures (
+            refl,
+            entry_fault c.args.text.now c.in-Some.words.0.now _ w.words w.skipped s.nodes
+                s.arcs s.last None c.in-None-arc.ensures,
+          );
     }
