@@ -1,4 +1,3 @@
-pub mod ListsLemmas
 pub mod PageLemmas
 pub mod Pages
 pub mod ReadBack

@@ -1,6 +1,6 @@
 -- An ASCIIGraph text that is read line by line, of which other lines may come later.
-use Rattle.std.proofs.Common.{◌≡◌, ◌≢◌, ℕ, ◌+◌, ◌-◌, ◌<◌, ◌≤◌, List, [], ◌∷◌, ◌++◌, length, replicate, Err, refl, sym, ap, subst, ◌∙◌, arith, inl, inr, append-nil}
-use Rattle.std.proofs.lemmas.Bool.{cases_lt}
+use Rattle.std.proofs.Common.{false, ◌==◌, ◌≡◌, ◌≢◌, ℕ, ◌+◌, ◌-◌, ◌<◌, ◌≤◌, List, [], ◌∷◌, ◌++◌, length, replicate, Err, refl, sym, ap, subst, ◌∙◌, arith, inl, inr, append-nil}
+use Rattle.std.proofs.lemmas.Bool.{cases_lt, eqb-false}
 use Rattle.std.proofs.lemmas.List.{length_push}
 use Rattle.std.proofs.lemmas.List.Sums.{sum_by_push}
 use Rattle.wg_num.specs.Lines.{lines_of}
@@ -18,6 +18,10 @@ use Rattle.wg_ascii.proofs.Whole.{blank_more, blank_done, blank_refused, extra_a
 
 abbrev pub graph_of : PageLinesRead → List (List ℕ) → Digraph
 graph_of s lists = record { nodes = s.nodes; lists = lists }
+
+-- a text that is not empty has a byte
+pub is_left : (count : ℕ) → false ≡ (count == 0) → 0 < count
+is_left count test = omega (arith, eqb-false count 0 (sym test))
 
 -- ---- the first line
 pub first_read : (all after later : List (List ℕ)) (first : List ℕ) (s : PageLinesRead) → all ≡ first ∷ after → Tells (words_of first) s.nodes → s.line ≡ 1 → s.arcs ≡ 0 → IsUpTo (all ++ later) (after ++ later) [] s

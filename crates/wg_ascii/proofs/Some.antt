@@ -139,7 +139,7 @@ decide bytes (first ∷ lines) cut =
           let t = tells (words_of first) fine in
           let none : Digraph = record { nodes = t.0; lists = [] } in
           decide_pages bytes first lines t.0 cut t.1 (walk_pages lines lines none (lists_none lines none refl t.1.small))
-      | inr faulty ↦ (Err (1, faulty.0), first_fault bytes first lines faulty.0 cut faulty.1)
+      | inr faulty ↦ (Err (1, faulty.0), first_fault (lines_of bytes) first lines faulty.0 cut faulty.1)
     ]
 
 pub texts_are_some : TextsAreSome

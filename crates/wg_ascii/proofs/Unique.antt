@@ -1,9 +1,10 @@
 -- A text stands for one graph or has one first fault, and what its words are decides which.
 use Rattle.std.proofs.Common.{◌≡◌, ℕ, zero, suc, ◌<◌, ◌≤◌, ◌^◌, List, [], ◌∷◌, map, length, drop, get_or, decimal, None, refl, sym, ap, subst, ◌∙◌, arith, inl, inr}
-use Rattle.std.proofs.lemmas.Bool.{cases_lt, cases_eq}
+use Rattle.std.proofs.lemmas.Bool.{cases_lt}
 use Rattle.std.proofs.lemmas.Option.{none-some, same_Some}
 use Rattle.std.proofs.lemmas.List.{ext_get_or, get_or_past}
 use Rattle.std.proofs.lemmas.List.Elements.{All-get_or}
+use Rattle.wg_lines.proofs.FirstFault.{first_is_one}
 use Rattle.wg_num.specs.Decimal.{number_of}
 use Rattle.wg_num.specs.Words.{words_of}
 use Rattle.wg_num.proofs.Numbers.{number_of-decimal}
@@ -66,15 +67,8 @@ not_both lines g line kind a f = none-some kind (sym (all_fine lines g a f.index
 
 same_fault : (lines : List (List ℕ)) (line line1 : ℕ) (kind kind1 : AsciiKind) → IsFirstFault lines line kind → IsFirstFault lines line1 kind1 → (line ≡ line1) × (kind ≡ kind1)
 same_fault lines line line1 kind kind1 f g =
-    let p = f.counted in
-    let q = g.counted in
-    elim (cases_eq f.index g.index) [
-      | inl e ↦ (omega arith, same_Some kind kind1 (sym f.fault ∙ ap (fault_at lines) e ∙ g.fault))
-      | inr ne ↦ elim (cases_lt f.index g.index) [
-        | inl lt ↦ absurd (none-some kind (sym (g.sound f.index lt) ∙ f.fault))
-        | inr le ↦ absurd (none-some kind1 (sym (f.sound g.index (omega arith)) ∙ g.fault))
-      ]
-    ]
+    let same = first_is_one (fault_at lines) f.index g.index kind kind1 f.fault g.fault f.sound g.sound in
+    (omega (arith, f.counted, g.counted, same.0), same.1)
 
 pub texts_are_one : TextsAreOne
 texts_are_one = record { graph = same_graph; never_both = not_both; fault = same_fault }

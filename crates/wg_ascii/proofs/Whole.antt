@@ -36,8 +36,8 @@ told_pages words n h =
 
 -- ---- a fault
 
-pub first_fault : (bytes first : List ℕ) (lines : List (List ℕ)) (k : AsciiKind) → lines_of bytes ≡ first ∷ lines → fault_of_first (words_of first) ≡ Some k → IsFirstFault (lines_of bytes) 1 k
-first_fault bytes first lines k cut fault = subst (λ (ls : List (List ℕ)). IsFirstFault ls 1 k) (sym cut) (record { index = 0; counted = refl; fault = fault; sound = λ i lt. absurd (omega arith) })
+pub first_fault : (all : List (List ℕ)) (first : List ℕ) (lines : List (List ℕ)) (k : AsciiKind) → all ≡ first ∷ lines → fault_of_first (words_of first) ≡ Some k → IsFirstFault all 1 k
+first_fault all first lines k cut fault = subst (λ (ls : List (List ℕ)). IsFirstFault ls 1 k) (sym cut) (record { index = 0; counted = refl; fault = fault; sound = λ i lt. absurd (omega arith) })
 
 pub no_lines_fault : (all : List (List ℕ)) → all ≡ [] → IsFirstFault all 1 kind.Missing
 no_lines_fault all none = subst (λ (ls : List (List ℕ)). IsFirstFault ls 1 kind.Missing) (sym none) (record { index = 0; counted = refl; fault = refl; sound = λ i lt. absurd (omega arith) })

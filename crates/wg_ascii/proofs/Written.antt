@@ -1,8 +1,8 @@
 -- Lines in the form in which they are written, read number by number.
-use Rattle.std.proofs.Common.{Fits, w64, ◌≡◌, ℕ, ◌+◌, ◌-◌, ◌<◌, ◌≤◌, ◌^◌, false, List, [], ◌∷◌, ◌++◌, length, take, drop, decimal, Result, Ok, Err, refl, sym, ap, subst, ◌∙◌, arith, append_assoc, append-nil, length-drop}
+use Rattle.std.proofs.Common.{◌≡◌, ℕ, ◌+◌, ◌-◌, ◌<◌, ◌≤◌, ◌^◌, false, List, [], ◌∷◌, ◌++◌, length, take, drop, decimal, Result, Ok, Err, refl, sym, ap, subst, ◌∙◌, append_assoc, append-nil}
 use Rattle.std.specs.Result.{OnOk, is_err}
 use Rattle.std.proofs.lemmas.List.{take_rest, take-append-drop}
-use Rattle.wg_params.specs.declared.limits.TheConstants.{MOST_ARCS, MOST_PAGES}
+use Rattle.wg_params.specs.declared.limits.TheConstants.{MOST_ARCS}
 use Rattle.wg_num.specs.Lines.{lines_of}
 use Rattle.wg_graph.specs.Ascending.{Ascends, Below}
 use Rattle.wg_ascii.specs.Text.{words_after, list_words, list_line}
@@ -58,36 +58,17 @@ written_line n arcs text rest after list new least count v h is more =
 pub written_order : (n arcs : ℕ) (text rest list new : List ℕ) (least count v : ℕ) → WrittenSoFar n arcs text rest list least count → new ≡ list ++ v ∷ [] → least ≤ v → v < n → count < MOST_ARCS → InOrder n arcs new (v + 1) (count + 1)
 written_order n arcs text rest list new least count v h more low page room = subst (λ (l : List ℕ). InOrder n arcs l (v + 1) (count + 1)) (sym more) (order_more n arcs list least count v h.order low page room)
 
-pub order_room : (n arcs : ℕ) (list : List ℕ) (least count : ℕ) → InOrder n arcs list least count
-    → arcs + length list ≤ MOST_ARCS
-order_room n arcs list least count h = omega (arith, h.counted, h.room)
-
 -- a line without successors
 pub none_line : (text after list : List ℕ) (first : ℕ) → text ≡ first ∷ after → first ≡ 10 → list ≡ []
     → text ≡ list_line list ++ after
 none_line text after list first is end none =
     is ∙ ap (λ (b : ℕ). b ∷ after) end ∙ ap (λ (l : List ℕ). list_line l ++ after) (sym none)
 
-pub none_room : (arcs : ℕ) (list : List ℕ) → list ≡ [] → arcs ≤ MOST_ARCS → arcs + length list ≤ MOST_ARCS
-none_room arcs list none room = omega (arith, ap length none, room)
-
 -- the number is added if memory did not run out
 pub added : {E : Type 0} (r : Result (Unit {0}) E) (list new : List ℕ) (v : ℕ) → OnOk r (new ≡ list ++ v ∷ [])
     → false ≡ is_err r → new ≡ list ++ v ∷ []
 added (Ok done) list new v ok fine = ok
 added (Err e) list new v ok fine = absurd (cc fine)
-
--- the number, the count and the text after a word
-pub next_least : (n v : ℕ) → v < n → n ≤ MOST_PAGES → Fits w64 (v + 1)
-next_least n v lt le = omega (arith, lt, le)
-
-pub next_count : (count : ℕ) → count < MOST_ARCS → Fits w64 (count + 1)
-next_count count room = omega (arith, room)
-
-pub shorter_after : (rest after : List ℕ) (end byte : ℕ) → take (length rest - end) (drop end rest) ≡ byte ∷ after
-    → length after < length rest
-shorter_after rest after end byte back =
-    omega (arith, ap length (sym (take_rest rest end) ∙ back), length-drop end rest)
 
 -- a line that is as it is written lists these successors
 pub written_list : (n arcs : ℕ) (bytes after list : List ℕ) → n ≤ 2 ^ 64 → bytes ≡ list_line list ++ after → Ascends 0 list → Below n list → arcs + length list ≤ MOST_ARCS → HasList n arcs (lines_of bytes) (lines_of after) list

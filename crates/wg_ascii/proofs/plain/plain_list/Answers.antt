@@ -1,6 +1,7 @@
-use Rattle.std.proofs.Common.{◌∷◌, ◌++◌, ◌∙◌, ℕ, decimal, ap, subst, sym}
+use Rattle.std.proofs.Common.{◌∷◌, ◌++◌, ◌∙◌, ℕ, decimal, ap, subst, sym, arith, length, length-drop}
+use Rattle.std.proofs.lemmas.List.{take_rest}
 use Rattle.wg_graph.specs.Ascending.{Ascends, Below}
-use Rattle.wg_ascii.proofs.Written.{added, next_count, next_least, none_line, none_room, order_room, parted, shorter_after, written_line, written_more, written_none, written_order}
+use Rattle.wg_ascii.proofs.Written.{added, none_line, parted, written_line, written_more, written_none, written_order}
 use Rattle.wg_ascii.proofs.plain.plain_list.Goals as goal
 
 pub returns-in_err-first : goal.returns-in_err-first
@@ -13,7 +14,7 @@ returns-then-first-eq10 c = record {
       c.in_ok-first.ensures.cases.0 c.if-first-eq10.true c.clear.ensures;
   ascends = subst (Ascends 0) (sym c.clear.ensures) tt;
   below = subst (Below c.args.n) (sym c.clear.ensures) tt;
-  room = none_room c.args.arcs c.clear.new.self c.clear.ensures c.requires.arcs;
+  room = omega (arith, ap length c.clear.ensures, c.requires.arcs);
 }
 
 pub words-init : goal.words-init
@@ -54,22 +55,21 @@ returns-then-byte-eq10 c =
           written_line c.args.n c.args.arcs c.args.text.now rest after w.list new w.least w.count v w.invariant is more;
       ascends = order.ascends;
       below = order.below;
-      room = order_room c.args.n c.args.arcs new _ _ order;
+      room = omega (arith, order.counted, order.room);
     }
 
 pub returns-then-byte-ne32 : goal.returns-then-byte-ne32
 returns-then-byte-ne32 c = record { line = tt; ascends = tt; below = tt; room = tt }
 
 pub overflow_add-least : goal.overflow_add-least
-overflow_add-least c = next_least c.args.n c.in_ok-number.number c.if-n-number.false c.requires.pages
+overflow_add-least c = omega (arith, c.if-n-number.false, c.requires.pages)
 
 pub overflow_add-count : goal.overflow_add-count
-overflow_add-count c = next_count c.words.count c.if-count-ge-MOST_ARCS.false
+overflow_add-count c = omega (arith, c.if-count-ge-MOST_ARCS.false)
 
 pub words-smaller : goal.words-smaller
 words-smaller c =
-    shorter_after c.words.rest.now c.in_ok-byte.after.now c.in_ok-number.end c.in_ok-byte.byte.now
-    c.in_ok-byte.ensures.cases.0
+    omega (arith, ap length (sym (take_rest c.words.rest.now c.in_ok-number.end) ∙ c.in_ok-byte.ensures.cases.0), length-drop c.in_ok-number.end c.words.rest.now)
 
 pub words-preserved : goal.words-preserved
 words-preserved c =

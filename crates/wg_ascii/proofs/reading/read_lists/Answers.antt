@@ -1,10 +1,13 @@
-use Rattle.std.proofs.Common.{◌≤◌, ◌++◌, ◌∷◌, ◌∙◌, [], ℕ, List as ListOf, refl, sym, ap, subst}
+use Rattle.std.proofs.Common.{◌≤◌, ◌++◌, ◌∷◌, ◌∙◌, [], ℕ, List as ListOf, length, sum_by, refl, sym, ap, subst, arith}
+use Rattle.std.proofs.lemmas.Bool.{eqb-true, leb-true, leb-false}
+use Rattle.std.proofs.lemmas.List.{length_push}
+use Rattle.std.proofs.lemmas.List.Sums.{sum_by_push}
 use Rattle.wg_outside.proofs.PutsLemmas.{is_that_err}
 use Rattle.wg_params.specs.declared.limits.TheConstants.{MOST_PAGES}
 use Rattle.wg_num.specs.Lines.{lines_of}
 use Rattle.wg_graph.specs.Ascending.{Ascends, Below}
 use Rattle.wg_ascii.specs.Growing.{IsUpTo}
-use Rattle.wg_ascii.proofs.ListsLemmas.{all_left, arcs_more, arcs_none, count_more, count_none, few_lines, few_none, is_left, is_page, none_left, page_left, page_more, page_none, past_pages, room_left, shorter_yet}
+use Rattle.wg_ascii.proofs.PageLemmas.{is_left}
 use Rattle.wg_ascii.proofs.reading.read_lists.Goals as goal
 use Rattle.wg_ascii.proofs.reading.read_lists.Goals.{then-pages-test+else-is_page, else-pages-test}
 
@@ -15,11 +18,11 @@ pages-init c =
     record {
       nodes = refl;
       same = refl;
-      count = count_none _ lines.line r.none r.first;
-      page = page_none lines.line lines.nodes r.first;
-      arcs = arcs_none c.args.builder.now lines.arcs r.none r.arcs;
-      few = few_none lines.arcs r.arcs;
-      shorter = all_left _;
+      count = omega (arith, ap length r.none, r.first);
+      page = omega (arith, r.first);
+      arcs = ap (sum_by (λ (l : ListOf ℕ). length l)) r.none ∙ sym r.arcs;
+      few = omega (arith, r.arcs);
+      shorter = omega arith;
       read = λ all later h.
           subst (λ (ls : ListOf (ListOf ℕ)). IsUpTo all (lines_of c.args.bytes.now ++ later) ls lines) (sym r.none) h;
     }
@@ -29,7 +32,7 @@ read_page-requires c =
     let v = c.pages.invariant in
     record {
       some = is_left _ c.pages-test.ensures;
-      page = is_page _ _ c.if-is_page.ensures;
+      page = leb-true _ _ (sym c.if-is_page.ensures);
       few = subst (λ (n : ℕ). n ≤ MOST_PAGES) (sym v.nodes) c.requires.few;
       arcs = v.few;
     }
@@ -52,13 +55,12 @@ push_list-requires c =
     let v = c.pages.invariant in
     let n = c.in_ok-rest.ensures in
     record {
-      page = page_left _ _ _ _ _ _ v.count (is_page _ _ c.if-is_page.ensures) v.nodes c.requires.nodes v.same;
+      page = omega (arith, v.count, leb-true _ _ (sym c.if-is_page.ensures), v.nodes, c.requires.nodes, v.same);
       ascends = subst (Ascends 0) (sym c.as_slice.ensures) n.ascends;
       below =
           subst (λ (pages : ℕ). Below pages c.as_slice.result.now) (v.nodes ∙ c.requires.nodes ∙ sym v.same)
           (subst (Below c.pages.lines.nodes) (sym c.as_slice.ensures) n.below);
-      room =
-          room_left _ _ _ c.read_page.new.list c.as_slice.result.now v.arcs n.arcs n.room c.as_slice.ensures;
+      room = omega (arith, v.arcs, n.arcs, n.room, ap length c.as_slice.ensures);
     }
 
 pub pages-smaller : goal.pages-smaller
@@ -73,13 +75,13 @@ pages-preserved c =
     record {
       nodes = n.nodes ∙ v.nodes;
       same = c.in_ok-push_list.ensures.nodes ∙ v.same;
-      count = count_more lists _ c.as_slice.result.now c.pages.lines.line _ more v.count n.line;
-      page = page_more _ _ _ _ (is_page _ _ c.if-is_page.ensures) n.line n.nodes;
+      count = omega (arith, ap length more, length_push lists c.as_slice.result.now, v.count, n.line);
+      page = omega (arith, leb-true _ _ (sym c.if-is_page.ensures), n.line, n.nodes);
       arcs =
-          arcs_more c.pages.builder c.push_list.new.self c.read_page.new.list c.as_slice.result.now _ _
-          more c.as_slice.ensures v.arcs n.arcs;
+          ap (sum_by (λ (l : ListOf ℕ). length l)) more
+          ∙ omega (arith, sum_by_push (λ (l : ListOf ℕ). length l) lists c.as_slice.result.now, v.arcs, n.arcs, ap length c.as_slice.ensures);
       few = n.room;
-      shorter = shorter_yet _ _ _ n.shorter v.shorter;
+      shorter = omega (arith, n.shorter, v.shorter);
       read = λ all later h.
           let s = c.read_page.new.self in
           subst (λ (ls : ListOf (ListOf ℕ)). IsUpTo all (lines_of c.in_ok-rest.rest.now ++ later) ls s)
@@ -105,11 +107,11 @@ returns c =
     record {
       nodes = v.nodes;
       same = v.same;
-      few = few_lines c.pages.lines.line _ _ v.page v.nodes c.requires.few;
+      few = omega (arith, v.page, v.nodes, c.requires.few);
       shorter = v.shorter;
       over = λ some. elim c.pages-test.branch [
-        | then-pages-test+else-is_page w ↦ past_pages _ _ w.if-is_page.ensures
-        | else-pages-test w ↦ none_left _ c.pages.lines.line c.pages.lines.nodes w.pages-test.ensures some
+        | then-pages-test+else-is_page w ↦ leb-false _ _ (sym w.if-is_page.ensures)
+        | else-pages-test w ↦ absurd (omega (arith, eqb-true _ 0 (sym w.pages-test.ensures), some))
       ];
       read = v.read;
       fault = λ all later h. tt;

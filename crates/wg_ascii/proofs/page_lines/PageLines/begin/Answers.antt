@@ -1,9 +1,10 @@
-use Rattle.std.proofs.Common.{refl}
+use Rattle.std.proofs.Common.{refl, sym, ap, ◌++◌}
 use Rattle.wg_num.specs.Lines.{lines_of}
 use Rattle.wg_num.proofs.Cuts.{no_lines}
 use Rattle.wg_ascii.specs.Growing.{PageLinesRead}
-use Rattle.wg_ascii.proofs.ListsLemmas.{first_fault, is_empty, is_left}
-use Rattle.wg_ascii.proofs.PageLemmas.{first_read, no_first}
+use Rattle.wg_ascii.proofs.Whole.{first_fault}
+use Rattle.std.proofs.lemmas.Bool.{eqb-true}
+use Rattle.wg_ascii.proofs.PageLemmas.{first_read, no_first, is_left}
 use Rattle.wg_ascii.proofs.page_lines.PageLines.begin.Goals as goal
 
 pub returns-then-is_empty : goal.returns-then-is_empty
@@ -14,7 +15,7 @@ returns-then-is_empty c = record {
   shorter = tt;
   read = λ later. tt;
   fault = λ later end.
-      let none = is_empty _ c.if-is_empty.ensures in
+      let none = eqb-true _ 0 (sym c.if-is_empty.ensures) in
       no_first (lines_of c.args.bytes.now) later (no_lines c.args.bytes.now none) (end none);
 }
 
@@ -44,6 +45,6 @@ returns-in-Err c = record {
   shorter = tt;
   read = λ later. tt;
   fault = λ later end.
-      first_fault (lines_of c.args.bytes.now) (lines_of c.first_line.result.1.now) later c.first_line.result.0.now
-      c.in-Err.kind c.first_line.ensures.lines c.in-Err.ensures.err;
+      first_fault _ c.first_line.result.0.now (lines_of c.first_line.result.1.now ++ later) c.in-Err.kind
+      (ap (λ ls. ls ++ later) c.first_line.ensures.lines) c.in-Err.ensures.err;
 }

@@ -3,15 +3,13 @@ use Rattle.wg_outside.proofs.PutsLemmas.{is_that_err}
 use Rattle.wg_params.specs.declared.limits.TheConstants.{MOST_ARCS, MOST_PAGES}
 use Rattle.wg_num.specs.Lines.{lines_of}
 use Rattle.wg_ascii.specs.Growing.{PageLinesRead, HasList, HasNoList}
-use Rattle.wg_ascii.proofs.ListsLemmas.{next_line}
 use Rattle.wg_ascii.proofs.PageLemmas.{page_read, page_refused}
 use Rattle.wg_ascii.proofs.page_lines.PageLines.read_page.Goals as goal
 
 pub overflow_add-self-inside : goal.overflow_add-self-inside
 overflow_add-self-inside c =
     let is = sym c.self.view_is in
-    next_line c.self.inside.line c.self.inside.nodes (subst (λ (l : PageLinesRead). l.line ≤ l.nodes) is c.requires.page)
-    (subst (λ (l : PageLinesRead). l.nodes ≤ MOST_PAGES) is c.requires.few)
+    omega (arith, subst (λ (l : PageLinesRead). l.line ≤ l.nodes) is c.requires.page, subst (λ (l : PageLinesRead). l.nodes ≤ MOST_PAGES) is c.requires.few)
 
 pub read_first-requires : goal.read_first-requires
 read_first-requires c =

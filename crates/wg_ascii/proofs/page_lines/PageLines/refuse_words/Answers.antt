@@ -3,17 +3,17 @@ use Rattle.wg_num.specs.Lines.{lines_of}
 use Rattle.wg_num.specs.Words.{words_of}
 use Rattle.wg_num.proofs.Cuts.{no_lines}
 use Rattle.wg_ascii.specs.Growing.{IsFirst, IsUpTo, PageLinesRead}
-use Rattle.wg_ascii.proofs.ListsLemmas.{all_left, is_empty, is_left, lines_done}
+use Rattle.std.proofs.lemmas.Bool.{eqb-true}
 use Rattle.wg_ascii.proofs.Whole.{is_some_word, is_no_word}
-use Rattle.wg_ascii.proofs.PageLemmas.{blank_read, word_refused}
+use Rattle.wg_ascii.proofs.PageLemmas.{blank_read, word_refused, is_left}
 use Rattle.wg_ascii.proofs.page_lines.PageLines.refuse_words.Goals as goal
 
 pub lines-init : goal.lines-init
 lines-init c = record {
   nodes = refl;
   arcs = refl;
-  onward = all_left _;
-  line = all_left _;
+  onward = omega arith;
+  line = omega arith;
   over = c.requires.over;
   read = λ all later lists h. h;
 }
@@ -82,9 +82,9 @@ returns c =
       nodes = i.nodes;
       arcs = i.arcs;
       onward = i.onward;
-      line = lines_done c.lines.self.line _ _ i.line;
+      line = omega (arith, i.line);
       read = λ all later lists h.
           subst (λ (ls : List (List ℕ)). IsUpTo all (ls ++ later) lists c.lines.self)
-          (no_lines c.lines.rest.now (is_empty _ c.lines-test.ensures)) (i.read all later lists h);
+          (no_lines c.lines.rest.now (eqb-true _ 0 (sym c.lines-test.ensures))) (i.read all later lists h);
       fault = λ all later lists h. tt;
     }
