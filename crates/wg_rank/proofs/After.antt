@@ -1,11 +1,10 @@
 -- Bounds before the first round, and after so many.
-use Rattle.std.proofs.Common.{◌≡◌, ◌≤◌, ◌<◌, ℕ, List, length, Option, Result, Ok, Err, sym, ◌∙◌, subst, arith}
+use Rattle.std.proofs.Common.{◌≡◌, ◌≤◌, ℕ, List, length, Option, Result, Ok, Err, sym, ◌∙◌, subst, arith}
 use Rattle.std.specs.Result.{IfOk}
 use Rattle.std.proofs.lemmas.List.FromFn.{fill_by_all, get_or-map-range_with_len, length-map-range_with_len}
 use Rattle.wg_params.specs.declared.limits.TheConstants.{MOST_PAGES, MOST_DAMPING, MOST_ROUNDS}
 use Rattle.wg_graph.specs.Digraph.{Digraph}
 use Rattle.wg_rank.specs.Rank.{low, high}
-use Rattle.wg_rank.specs.Sum.{sum_below}
 use Rattle.wg_rank.specs.Intervals.{Intervals, AreBounds, AreBoundsOf, IsTable, by_page}
 use Rattle.wg_rank.specs.Weights.{AreWeights, weights_of}
 use Rattle.wg_rank.specs.Rounds.{AreReady, bounds_after, of_pages}
@@ -55,14 +54,4 @@ module _ (g : Digraph) (given : Option (List ℕ)) (rounds damping : ℕ) where
       of_pages_is f = record { counted = length-map-range_with_len f 0 g.nodes; each = λ v lt. get_or-map-range_with_len f 0 g.nodes v v 0 lt (omega arith) }
 
   pub are_bounds : rounds ≤ MOST_ROUNDS → damping ≤ MOST_DAMPING → g.nodes ≤ MOST_PAGES → AreWeights g.nodes weights → AreBounds (bounds_after g given damping rounds)
-  are_bounds few damped small are =
-      let lows : length (bounds_after g given damping rounds).low ≡ g.nodes = length-map-range_with_len (low g damping (by_page weights) rounds) 0 g.nodes in
-      let highs : length (bounds_after g given damping rounds).high ≡ g.nodes = length-map-range_with_len (high g damping (by_page weights) rounds) 0 g.nodes in
-      record {
-        few = omega (arith, lows);
-        damped = damped;
-        counted = few;
-        high_pages = highs ∙ sym lows;
-        weight_pages = are.pages ∙ sym lows;
-        some_weight = subst (λ (n : ℕ). 0 < n → 0 < sum_below n (by_page weights)) (sym lows) are.some;
-      }
+  are_bounds few damped small are = grind (arith, length-map-range_with_len)

@@ -1,10 +1,10 @@
 -- The text of a certificate has one outcome, and this is what the reading gives.
 use Rattle.std.proofs.Common.{◌≡◌, ◌⊎◌, ℕ, zero, suc, ◌+◌, ◌<◌, ◌≤◌, List, [], ◌∷◌, ◌++◌, length, drop, get_or, Option, Some, None, Result, Ok, Err, refl, sym, ap, subst, ◌∙◌, arith, inl, inr, append_assoc, append-nil, length-append, lt-ltb}
-use Rattle.std.specs.List.{filter_map}
 use Rattle.std.proofs.lemmas.Bool.{cases_lt, cases_eq, eq-eqb, ne_eqb, le-ltb}
 use Rattle.std.proofs.lemmas.Option.{none-some, same_Some}
 use Rattle.std.proofs.lemmas.List.{get_or_at, length_push}
 use Rattle.std.proofs.lemmas.List.Elements.{filter_map-append}
+use Rattle.wg_lines.proofs.FirstFault.{first_is_one}
 use Rattle.wg_num.specs.Lines.{lines_of}
 use Rattle.wg_num.specs.Units.{units_of}
 use Rattle.wg_rank.specs.Sum.{sum_below}
@@ -84,18 +84,13 @@ all_read n all i xs e h =
     }
 
 drop_more : (done : List (List ℕ)) (line : List ℕ) → 2 ≤ length done → drop 2 (done ++ line ∷ []) ≡ drop 2 done ++ line ∷ []
-drop_more [] line le = absurd (omega arith)
-drop_more (a ∷ []) line le = absurd (omega arith)
-drop_more (a ∷ b ∷ done) line le = refl
+drop_more done line h = grind arith
 
 bounds_more : (done : List (List ℕ)) (line : List ℕ) (x : ℕ) → 2 ≤ length done → units_of line ≡ Some x → bounds_on (done ++ line ∷ []) ≡ bounds_on done ++ x ∷ []
-bounds_more done line x le e =
-    let one : filter_map units_of (line ∷ []) ≡ x ∷ [] = rw e refl in
-    ap (filter_map units_of) (drop_more done line le) ∙ filter_map-append units_of (drop 2 done) (line ∷ []) ∙ ap (λ (l : List ℕ). bounds_on done ++ l) one
+bounds_more done line x le e = grind (arith, filter_map-append, drop_more)
 
 one_read : (n : ℕ) (all rest : List (List ℕ)) (line : List ℕ) (i x : ℕ) (xs : List ℕ) → i < n → units_of line ≡ Some x → SoFar n all (line ∷ rest) i xs → SoFar n all rest (i + 1) (xs ++ x ∷ [])
 one_read n all rest line i x xs lt e h =
-    let size = h.counted in
     let fine : fault_at n all (2 + i) ≡ None = line_there n all h.done rest line (2 + i) h.split h.counted ∙ bound_line n (2 + i) line (omega arith) (omega arith) ∙ ap unless_written e in
     record {
       done = h.done ++ line ∷ [];
@@ -201,33 +196,17 @@ outcome n (d ∷ rest) =
 
 same_line : (n : ℕ) (lines : List (List ℕ)) (line line1 : ℕ) (k k1 : CertKind) → IsFirstFaultyLine n lines line k → IsFirstFaultyLine n lines line1 k1 → (line ≡ line1) × (k ≡ k1)
 same_line n lines line line1 k k1 f g =
-    let p = f.counted in
-    let q = g.counted in
-    elim (cases_eq f.index g.index) [
-      | inl e ↦ (omega arith, same_Some k k1 (sym f.fault ∙ ap (fault_at n lines) e ∙ g.fault))
-      | inr ne ↦ elim (cases_lt f.index g.index) [
-        | inl lt ↦ absurd (none-some k (sym (g.sound f.index lt) ∙ f.fault))
-        | inr le ↦ absurd (none-some k1 (sym (f.sound g.index (omega arith)) ∙ g.fault))
-      ]
-    ]
+    let same = first_is_one (fault_at n lines) f.index g.index k k1 f.fault g.fault f.sound g.sound in
+    (omega (arith, f.counted, g.counted, same.0), same.1)
 
 sound_or_faulty : (n : ℕ) (lines : List (List ℕ)) (line : ℕ) (k : CertKind) → ((i : ℕ) → fault_at n lines i ≡ None) → IsFirstFaultyLine n lines line k → ⊥
 sound_or_faulty n lines line k sound f = none-some k (sym (sound f.index) ∙ f.fault)
 
 within_or_past : (n : ℕ) (lines : List (List ℕ)) (c : Claim) → IsClaimed n lines c → ArePastOne n lines → ⊥
-within_or_past n lines c h f =
-    let within : sum_below (length (bounds_on lines)) (by_page (bounds_on lines)) ≤ UNITS = subst (λ (l : List ℕ). sum_below (length l) (by_page l) ≤ UNITS) h.bounds h.within in
-    let past = f.past in
-    omega arith
-
-same_claim : (n : ℕ) (lines : List (List ℕ)) (c e : Claim) → IsClaimed n lines c → IsClaimed n lines e → c ≡ e
-same_claim n lines c e h k =
-    let damping : c.damping ≡ e.damping = same_Some c.damping e.damping (sym h.damping ∙ k.damping) in
-    let low : c.low ≡ e.low = h.bounds ∙ sym k.bounds in
-    λ i. record { damping = damping i; low = low i }
+within_or_past n lines c h f = grind arith
 
 one_outcome : (n : ℕ) (lines : List (List ℕ)) (w x : Result Claim CertFault) → IsOutcome n lines w → IsOutcome n lines x → w ≡ x
-one_outcome n lines (Ok c) (Ok e) a b = ap Ok (same_claim n lines c e a b)
+one_outcome n lines (Ok c) (Ok e) a b = grind (arith, same_Some)
 one_outcome n lines (Ok c) (Err (fault.Line line k)) a b = absurd (sound_or_faulty n lines line k a.sound b)
 one_outcome n lines (Ok c) (Err fault.Sum) a b = absurd (within_or_past n lines c a b)
 one_outcome n lines (Err (fault.Line line k)) (Ok e) a b = absurd (sound_or_faulty n lines line k b.sound a)

@@ -1,5 +1,5 @@
 -- What bounds certify that hold of a graph.
-use Rattle.std.proofs.Common.{ℕ, ◌≡◌, ◌+◌, ◌-◌, ◌*◌, ◌<◌, ◌≤◌, All, List, length, arith, ap, sym, ◌∙◌, subst, add-one, inl, inr}
+use Rattle.std.proofs.Common.{ℕ, ◌≡◌, ◌+◌, ◌-◌, ◌*◌, ◌<◌, ◌≤◌, All, List, length, arith, ap, sym, ◌∙◌, add-one, inl, inr}
 use Rattle.std.proofs.lemmas.List.FromFn.{fill_by_all}
 use Rattle.wg_graph.specs.Digraph.{Digraph, IsGraph, arc_count}
 use Rattle.wg_params.specs.declared.limits.TheConstants.{MOST_PAGES, MOST_DAMPING, MOST_ROUNDS}
@@ -20,14 +20,7 @@ use Rattle.std.proofs.lemmas.Bool.{cases_lt}
 -- bounds within the limits
 pub are_bounds : (b : Intervals) → length b.low ≤ MOST_PAGES → b.damping ≤ MOST_DAMPING → b.rounds ≤ MOST_ROUNDS → length b.high ≡ length b.low
     → AreWeights (length b.low) b.weights → AreBounds b
-are_bounds b few damped counted high weighed = record {
-  few = few;
-  damped = damped;
-  counted = counted;
-  high_pages = high;
-  weight_pages = weighed.pages;
-  some_weight = weighed.some;
-}
+are_bounds b few damped counted high weighed = grind arith
 
 -- the fields of bounds are within them
 pub kept_bounds : (b : Inside) → AreKept b → AreBounds (intervals_of b)
@@ -37,16 +30,7 @@ kept_bounds b k = are_bounds (intervals_of b) k.few k.damped k.counted k.high_pa
 pub kept_round : (b c : Inside) → AreKept b → c.damping ≡ b.damping → c.rounds ≡ b.rounds + 1 → b.rounds < MOST_ROUNDS → c.weights ≡ b.weights
     → length c.low.items ≡ length b.low.items → length c.high.items ≡ length b.high.items → length c.inflows.items ≡ length b.inflows.items
     → (old low high : List ℕ) → old ≡ b.low.items → c.low.items ≡ low → c.high.items ≡ high → sum_below (length old) (by_page low) ≤ UNITS → All (λ x. x ≤ UNITS) high → AreKept c
-kept_round b c k d r more w l h i old low high e m q t u = record {
-  few = rw l k.few;
-  damped = rw d k.damped;
-  counted = omega (arith, r, more);
-  weighed = rw (l, w) k.weighed;
-  high_pages = h ∙ k.high_pages ∙ sym l;
-  inflow_pages = rw l (i ∙ k.inflow_pages);
-  low_total = rw (l, m) (rw e at t);
-  high_units = rw q u;
-}
+kept_round b c k d r more w l h i old low high e m q t u = grind arith
 
 -- ---- what they certify
 
@@ -54,8 +38,7 @@ pub gap_of : (b : Intervals) (g : Digraph) → AreBoundsOf b g → gap g (by_pag
 gap_of b g o = ap (λ x. UNITS - x) (sum_same g.nodes (by_page b.low) (low g b.damping (by_page b.weights) b.rounds) o.low_is.each)
 
 some_weight : (b : Intervals) (g : Digraph) → AreBounds b → AreBoundsOf b g → 0 < g.nodes → 0 < total g (by_page b.weights)
-some_weight b g p o so =
-    subst (λ n. 0 < sum_below n (by_page b.weights)) o.low_is.counted (p.some_weight (omega (arith, o.low_is.counted)))
+some_weight b g p o so = grind arith
 
 pub certified : (b : Intervals) (g : Digraph) → IsGraph g → AreBounds b → AreBoundsOf b g → IsCertified b g
 certified b g ok p o =

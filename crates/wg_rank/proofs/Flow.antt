@@ -1,8 +1,6 @@
 -- What flows into each page from the pages below u, as a loop over the pages gathers it.
 use Rattle.std.specs.Int.{div_ceil}
-use Rattle.std.proofs.Common.{ℕ, zero, suc, All, ◌*◌, ◌≡◌, ◌≢◌, ◌+◌, ◌^◌, ◌<◌, ◌≤◌, ◌==◌, List, [], length, get_or, Bool, true, false, cond, ap, arith, ◌∙◌, add-one}
-use Rattle.std.proofs.Math.Nat.{div-zero, mod-zero, div-add-mod}
-use Rattle.std.proofs.lemmas.Bool.{ne_eqb, eq-eqb}
+use Rattle.std.proofs.Common.{ℕ, All, ◌*◌, ◌≡◌, ◌≢◌, ◌+◌, ◌^◌, ◌<◌, ◌≤◌, ◌==◌, List, length, get_or, Bool, cond, ap, arith, ◌∙◌, add-one}
 use Rattle.std.proofs.lemmas.List.{nil_from_length}
 use Rattle.std.proofs.lemmas.List.Elements.{All-from_get_or}
 use Rattle.wg_rank.specs.Sum.{sum_below}
@@ -25,8 +23,7 @@ pub le_both : (x y z : ℕ) → x ≤ y → y ≤ z → x ≤ z
 le_both x y z h k = omega arith
 
 cond_le : (t : Bool) (x m : ℕ) → x ≤ m → cond t x 0 ≤ m
-cond_le true x m h = h
-cond_le false x m h = omega arith
+cond_le t x m h = grind arith
 
 pub flow_le : (u m : ℕ) (t : ℕ → Bool) (x : ℕ → ℕ) → ((w : ℕ) → w < u → x w ≤ m) → sum_below u (λ w. cond (t w) (x w) 0) ≤ u * m
 flow_le u m t x h =
@@ -50,29 +47,17 @@ pub gathered_more : (g : Digraph) (n u : ℕ) (x : ℕ → ℕ) (xs ys : List �
 gathered_more g n u x xs ys e p s = record { each = λ v w. rw add-one (s v (omega arith) ∙ ap (λ y. y + cond (has_arc g u v) (x u) 0) (p.each v w)) }
 
 pub gathered_same : (g : Digraph) (n u : ℕ) (x : ℕ → ℕ) (xs : List ℕ) → outdegree g u ≡ 0 → Gathered g n u x xs → Gathered g n (u + 1) x xs
-gathered_same g n u x xs e p =
-    let f : successors g u ≡ [] = nil_from_length (successors g u) e in
-    record {
-      each = λ v w.
-          let t : has_arc g u v ≡ false = ap (λ l. is_in v l) f in
-          let z : cond (has_arc g u v) (x u) 0 ≡ 0 = ap (λ b. cond b (x u) 0) t in
-          rw add-one (omega (arith, p.each v w, z));
-    }
+gathered_same g n u x xs e p = grind (arith, nil_from_length)
 
 pub dangling_more : (g : Digraph) (u : ℕ) (x : ℕ → ℕ) (d : ℕ) → outdegree g u ≡ 0 → Dangling g u x d → Dangling g (u + 1) x (d + x u)
-dangling_more g u x d e p =
-    let z : cond (outdegree g u == 0) (x u) 0 ≡ x u = ap (λ b. cond b (x u) 0) (eq-eqb (outdegree g u) 0 e) in
-    record { total = rw add-one (omega (arith, p.total, z)) }
+dangling_more g u x d e p = grind arith
 
 pub dangling_same : (g : Digraph) (u : ℕ) (x : ℕ → ℕ) (d : ℕ) → outdegree g u ≢ 0 → Dangling g u x d → Dangling g (u + 1) x d
-dangling_same g u x d e p =
-    let z : cond (outdegree g u == 0) (x u) 0 ≡ 0 = ap (λ b. cond b (x u) 0) (ne_eqb (outdegree g u) 0 e) in
-    record { total = rw add-one (omega (arith, p.total, z)) }
+dangling_same g u x d e p = grind arith
 
 -- a part rounded up is no more than the whole
 pub div_ceil_le : (x d : ℕ) → div_ceil x d ≤ x
-div_ceil_le x zero = omega (arith, div-zero x, mod-zero x)
-div_ceil_le x (suc d) = omega (arith, div-add-mod x (suc d))
+div_ceil_le x d = grind arith
 
 pub gathered_within : (g : Digraph) (n u : ℕ) (x : ℕ → ℕ) (xs : List ℕ) → u ≤ MOST_PAGES → length xs ≡ n
     → ((w : ℕ) → w < u → x w ≤ UNITS) → Gathered g n u x xs → All (λ y. y ≤ MOST_PAGES * UNITS) xs

@@ -1,5 +1,5 @@
 -- What a verified certificate says of stationary vectors, and of bounds that rounds have found.
-use Rattle.std.proofs.Common.{ℕ, ◌≡◌, ◌-◌, ◌<◌, List, length, Option, Some, None, MatchOption, Result, Ok, Err, IfOk, refl, sym, subst, arith}
+use Rattle.std.proofs.Common.{ℕ, ◌≡◌, ◌-◌, ◌<◌, List, length, Option, MatchOption, Result, Ok, Err, IfOk, refl, sym, subst, arith}
 use Rattle.wg_graph.specs.Digraph.{Digraph, IsGraph}
 use Rattle.wg_rank.specs.Sum.{sum_below}
 use Rattle.wg_rank.specs.Rank.{lower, gap, EnclosesStationary}
@@ -35,12 +35,7 @@ pub first_of_round : (g : Digraph) (a n : ℕ) (w next : ℕ → ℕ) (low : Lis
     → ((v : ℕ) → v < g.nodes → next v ≡ lower g a w (by_page low) v)
     → MatchOption r (AreAtMost n (by_page low) next) (λ x. (x < n) × (next x < by_page low x) × AreAtMost x (by_page low) next)
     → MatchOption r (Rises g a w (by_page low)) (FallsFirst g a w (by_page low))
-first_of_round g a n w next low None e is h = λ v i. omega (arith, h v (omega arith), is v i)
-first_of_round g a n w next low (Some x) e is h = record {
-  there = omega (arith, h.0);
-  falls = omega (arith, h.1, is x (omega (arith, h.0)));
-  before = λ v i. omega (arith, h.2 v i, is v (omega (arith, h.0, i)));
-}
+first_of_round g a n w next low r h h2 h3 = grind arith
 
 -- what bounds leave of 1
 pub left_of : (g : Digraph) (xs : List ℕ) (t : ℕ) → t ≡ sum_below (length xs) (by_page xs) → g.nodes ≡ length xs → UNITS - t ≡ gap g (by_page xs)

@@ -2,7 +2,6 @@
 use Rattle.std.specs.List.{sum_by}
 use Rattle.std.specs.Simd.Lanes.{zip2}
 use Rattle.std.proofs.Common.{ℕ, zero, suc, ◌≡◌, ◌+◌, ◌-◌, ◌*◌, ◌/◌, ◌%◌, ◌^◌, ◌<◌, ◌≤◌, List, [], ◌∷◌, length, get_or, refl, ap, arith}
-use Rattle.std.proofs.Math.Nat.{mod-eq_of_lt}
 use Rattle.std.proofs.lemmas.List.Sums.{sum_by-cons}
 use Rattle.wg_params.specs.declared.limits.TheConstants.{MOST_PAGES}
 use Rattle.wg_rank.specs.Sum.{sum_below}
@@ -27,9 +26,7 @@ four : (a b c d e f g h : ℕ) → a ≡ e → b ≡ f → c ≡ g → d ≡ h �
 four a b c d e f g h p q r s = rw (p, q, r, s) refl
 
 pub lanes_same : (f g : (ℕ → ℕ) → ℕ) (low high : ℕ → ℕ) → ((s : ℕ → ℕ) → f s ≡ g s) → in_lanes f low high ≡ in_lanes g low high
-lanes_same f g low high e =
-    four _ _ _ _ _ _ _ _ (ap (λ x. x % 2 ^ 64) (e (low_bits low))) (ap (λ x. x % 2 ^ 64) (e (high_bits low)))
-    (ap (λ x. x % 2 ^ 64) (e (low_bits high))) (ap (λ x. x % 2 ^ 64) (e (high_bits high)))
+lanes_same f g low high e = grind arith
 
 pub lanes_sum : (f g : (ℕ → ℕ) → ℕ) (low high : ℕ → ℕ)
     → zip2 (λ (a b : ℕ). (a + b) % 2 ^ 64) (in_lanes f low high) (in_lanes g low high) ≡ in_lanes (λ s. f s + g s) low high
@@ -64,9 +61,7 @@ sum_joins (suc n) s = omega (arith, sum_joins n s, parts_join (s n))
 
 -- k numbers more
 more_small : (t : ℕ → ℕ) (a k m : ℕ) → ((u : ℕ) → u < a + k → t u ≤ m) → sum_below (a + k) t ≤ sum_below a t + k * m
-more_small t a zero m h =
-    let e : sum_below (a + 0) t ≡ sum_below a t = ap (λ (i : ℕ). sum_below i t) {y = a} (omega arith) in
-    omega (arith, e)
+more_small t a zero m h = grind arith
 more_small t a (suc k) m h =
     let e : sum_below (a + suc k) t ≡ sum_below (suc (a + k)) t = ap (λ (i : ℕ). sum_below i t) {y = suc (a + k)} (omega arith) in
     omega (arith, e, more_small t a k m (λ u w. h u (omega arith)), h (a + k) (omega arith))
@@ -74,10 +69,7 @@ more_small t a (suc k) m h =
 -- if both parts of a sum grow by at most 2^40 for each of at most 2^24 numbers, nothing is lost in lanes
 growth_joins : (x y p q k s t : ℕ) → p ≤ x → q ≤ y → x ≤ p + k * (2 ^ 40 - 1) → y ≤ q + k * (2 ^ 40 - 1) → k ≤ 2 ^ 24
     → p + q * 2 ^ 40 ≡ s → x + y * 2 ^ 40 ≡ t → s + ((x - p) % 2 ^ 64 + (y - q) % 2 ^ 64 * 2 ^ 40) ≡ t
-growth_joins x y p q k s t h1 h2 h3 h4 h5 e f =
-    let u : (x - p) % 2 ^ 64 ≡ x - p = mod-eq_of_lt (omega arith) in
-    let v : (y - q) % 2 ^ 64 ≡ y - q = mod-eq_of_lt (omega arith) in
-    omega (arith, u, v)
+growth_joins x y p q k s t h1 h2 h3 h4 h5 e f = omega arith
 
 -- between two places that are at most 2^24 pages apart nothing is lost in lanes
 pub rise_joins : (s : ℕ → ℕ) (a b : ℕ) → a ≤ b → b ≤ a + 2 ^ 24 → ((u : ℕ) → u < b → s u ≤ UNITS)
@@ -98,8 +90,7 @@ sum_small s n h = omega (arith, sum_le n s (λ _. UNITS) h, sum_const n UNITS)
 -- from a place on to i, and from there on to j
 pub rise_more : (s : ℕ → ℕ) (a i k j b x y : ℕ) → sum_below a s + x ≡ sum_below i s → sum_below k s + y ≡ sum_below j s → i ≡ k → j ≡ b
     → sum_below a s + (x + y) ≡ sum_below b s
-rise_more s a i k j b x y e f g h =
-    omega (arith, e, f, ap (λ (m : ℕ). sum_below m s) {y = k} g, ap (λ (m : ℕ). sum_below m s) {y = b} h)
+rise_more s a i k j b x y e f g h = grind arith
 
 pub rise_room : (s : ℕ → ℕ) (n a i k j x y : ℕ) → sum_below a s + x ≡ sum_below i s → sum_below k s + y ≡ sum_below j s → i ≡ k → j ≤ n → n ≤ MOST_PAGES
     → ((u : ℕ) → u < n → s u ≤ UNITS) → x + y < 2 ^ 128

@@ -1,6 +1,6 @@
 -- Sums of shares over lists of pages.
 use Rattle.std.specs.List.{sum_by}
-use Rattle.std.proofs.Common.{ℕ, ◌≡◌, ◌-◌, ◌+◌, ◌*◌, ◌%◌, ◌^◌, ◌<◌, ◌≤◌, All, List, length, get_or, ap, arith, ◌∙◌}
+use Rattle.std.proofs.Common.{ℕ, ◌≡◌, ◌-◌, ◌+◌, ◌*◌, ◌%◌, ◌^◌, ◌<◌, ◌≤◌, All, List, length, get_or, ap, arith}
 use Rattle.std.proofs.Math.Nat.{mod-eq_of_lt}
 use Rattle.std.proofs.lemmas.List.Sums.{sum_by-le}
 use Rattle.wg_params.specs.declared.limits.TheConstants.{MOST_PAGES}
@@ -27,14 +27,10 @@ list_joins s xs few small =
 module _ (n : ℕ) (low high : ℕ → ℕ) (shares : List (List ℕ)) (h : AreShares n low high shares) where
   module _ (xs : List ℕ) (few : length xs ≤ 2 ^ 24) (within : All (λ u. u < length shares) xs) (lanes : List ℕ) (e : lanes ≡ in_lanes (λ s. sum_by s xs) low high) where
     pub low_joins : get_or lanes 0 0 + get_or lanes 1 0 * 2 ^ 40 ≡ sum_by low xs
-    low_joins =
-        ap (λ (l : List ℕ). get_or l 0 0 + get_or l 1 0 * 2 ^ 40) e
-        ∙ list_joins low xs few (λ i d w. h.low_small (get_or xs i d) (omega (arith, h.pages, within i d w)))
+    low_joins = grind (arith, list_joins)
 
     pub high_joins : get_or lanes 2 0 + get_or lanes 3 0 * 2 ^ 40 ≡ sum_by high xs
-    high_joins =
-        ap (λ (l : List ℕ). get_or l 2 0 + get_or l 3 0 * 2 ^ 40) e
-        ∙ list_joins high xs few (λ i d w. h.high_small (get_or xs i d) (omega (arith, h.pages, within i d w)))
+    high_joins = grind (arith, list_joins)
 
 -- no more than 1 for each page
 pub shares_room : (g : Digraph) (v : ℕ) (s : ℕ → ℕ) (xs : List ℕ) → g.nodes ≤ MOST_PAGES → xs ≡ predecessors g v → ((u : ℕ) → u < g.nodes → s u ≤ UNITS)

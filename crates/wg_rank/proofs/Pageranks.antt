@@ -1,11 +1,11 @@
 -- The setting of a graph, and its laws in the words of the definitions.
-use Rattle.std.proofs.Common.{ℕ, zero, suc, ◌≡◌, ◌+◌, ◌-◌, ◌*◌, ◌/◌, ◌^◌, ◌<◌, ◌≤◌, max, refl, ap, arith, sym, ◌∙◌, add-one}
+use Rattle.std.proofs.Common.{ℕ, ◌≡◌, ◌+◌, ◌-◌, ◌*◌, ◌/◌, ◌^◌, ◌<◌, ◌≤◌, max, refl, ap, arith, sym, ◌∙◌, add-one}
 use Rattle.std.proofs.Math.Nat.{mul-le-mul_left, div-mul-le_self, lt-div-mul-add, le_of_mul-le-mul_left}
 use Rattle.std.specs.Int.{div_ceil}
 use Rattle.wg_graph.specs.Arcs.{has_arc}
 use Rattle.wg_graph.specs.Digraph.{Digraph, IsGraph, outdegree, successors, arc_count}
 use Rattle.wg_rank.specs.Sum.{sum_below}
-use Rattle.wg_rank.specs.Rank.{total, degrees_product, gap, lower, clipped, low, high, exact_step, numerator, denominator, IsStationary, Encloses}
+use Rattle.wg_rank.specs.Rank.{total, degrees_product, gap, lower, low, high, exact_step, numerator, denominator, IsStationary, Encloses}
 use Rattle.wg_rank.specs.declared.limits.TheConstants.{UNITS}
 use Rattle.wg_rank.proofs.Sums.{sum_const, sum_scale, sum_same, sum_add, sum_le}
 use Rattle.wg_rank.proofs.Steps.{Setting, div_mono, part_above}
@@ -30,7 +30,6 @@ near_weighted : (a r n s : ℕ) (w : ℕ → ℕ) (x : ℕ) → 0 < n → 0 < su
 near_weighted a r n s w x h k =
     let z : ℕ = sum_below n w in
     let f : ℕ → ℕ = λ v. 1000 * (r * s * w v / (1000 * z)) in
-    let e1 : a * x < a * x / (1000 * n) * (1000 * n) + 1000 * n = lt-div-mul-add {a = a * x} {b = 1000 * n} (omega arith) in
     let e2 : sum_below n (λ v. r * s * w v) ≤ sum_below n (λ v. z * f v + 1000 * z) =
     sum_le n (λ v. r * s * w v) (λ v. z * f v + 1000 * z) (λ v _. omega (arith, lt-div-mul-add {a = r * s * w v} {b = 1000 * z} (omega arith))) in
     let e3 : r * s ≤ sum_below n f + 1000 * n =
@@ -38,7 +37,7 @@ near_weighted a r n s w x h k =
     (omega (arith, e2, sum_scale n (r * s) w, sum_add n (λ v. z * f v) (λ _. 1000 * z), sum_scale n z f, sum_const n (1000 * z))) k in
     let e4 : sum_below n (λ v. 1000 * (a * x / (1000 * n) + r * s * w v / (1000 * z))) ≡ sum_below n (λ v. 1000 * (a * x / (1000 * n)) + f v) =
     sum_same n (λ v. 1000 * (a * x / (1000 * n) + r * s * w v / (1000 * z))) (λ v. 1000 * (a * x / (1000 * n)) + f v) (λ v _. omega arith) in
-    omega (arith, e1, e3, e4, sum_add n (λ _. 1000 * (a * x / (1000 * n))) f, sum_const n (1000 * (a * x / (1000 * n))))
+    omega (arith, e3, e4, sum_add n (λ _. 1000 * (a * x / (1000 * n))) f, sum_const n (1000 * (a * x / (1000 * n))))
 
 abbrev setting : (g : Digraph) (a : ℕ) (w : ℕ → ℕ) → IsGraph g → a ≤ 1000 → 0 < g.nodes → 0 < sum_below g.nodes w → Setting
 setting g a w ok damped some heavy = record {
@@ -76,24 +75,16 @@ setting g a w ok damped some heavy = record {
 
 module _ (g : Digraph) (a : ℕ) (wt : ℕ → ℕ) (ok : IsGraph g) (damped : a ≤ 1000) (some : 0 < g.nodes) (heavy : 0 < sum_below g.nodes wt) where
   same_low : (k : ℕ) → laws.low (setting g a wt ok damped some heavy) k ≡ low g a wt k
-  same_low zero = refl
-  same_low (suc k) = ap (λ l v. lower g a wt l v) (same_low k)
+  same_low k = grind arith
 
   same_high : (k : ℕ) → laws.high (setting g a wt ok damped some heavy) k ≡ high g a wt k
-  same_high zero = refl
-  same_high (suc k) =
-      ap (λ l v. clipped g a wt l (laws.high (setting g a wt ok damped some heavy) k) v) (same_low k)
-      ∙ ap (λ h v. clipped g a wt (low g a wt k) h v) (same_high k)
+  same_high k = grind arith
 
   same_den : (t : ℕ) → laws.den (setting g a wt ok damped some heavy) t ≡ denominator g wt t
-  same_den zero = refl
-  same_den (suc t) = ap (λ z. z * 1000 * g.nodes * degrees_product g * sum_below g.nodes wt) (same_den t)
+  same_den t = grind arith
 
   same_num : (t : ℕ) → laws.num (setting g a wt ok damped some heavy) t ≡ numerator g a wt t
-  same_num zero = refl
-  same_num (suc t) =
-      ap (λ p v. exact_step g a wt p (laws.den (setting g a wt ok damped some heavy) t) v) (same_num t)
-      ∙ ap (λ z v. exact_step g a wt (numerator g a wt t) z v) (same_den t)
+  same_num t = grind arith
 
   -- the numerators of an iterate add up to its denominator, which is above 0
   pub numerators_total : (t : ℕ) → (sum_below g.nodes (numerator g a wt t) ≡ denominator g wt t) × (0 < denominator g wt t)

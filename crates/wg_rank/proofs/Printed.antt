@@ -29,8 +29,7 @@ lines_split (x ∷ xs) (suc i) =
 -- the line of one bound more is printed, or it is not
 module _ (a b c waited mid xs : List ℕ) (i : ℕ) (there : i < length xs) (h : HasPrinted a b waited (bound_lines (take i xs)) mid) where
   pub bound_printed : (waits : List ℕ) → HasPrinted b c mid (bound_line (get_or xs i 0)) waits → HasPrinted a c waited (bound_lines (take (i + 1) xs)) waits
-  bound_printed waits g =
-      subst (λ (t : List ℕ). HasPrinted a c waited t waits) (sym (lines_more xs i there)) (printed_more a b c waited mid waits (bound_lines (take i xs)) (bound_line (get_or xs i 0)) h g)
+  bound_printed waits g = grind (arith, printed_more, bound_line, lines_more)
 
   pub bound_less : HasPrintedLess b c mid (bound_line (get_or xs i 0)) → HasPrintedLess a c waited (bound_lines xs)
   bound_less g =

@@ -8,8 +8,7 @@ use Rattle.std.proofs.lemmas.Nat.{div-mul-add, div-add-mod', mod_below}
 -- a multiple of the divisor leaves the rest as it is
 add_multiple : (a d x : ℕ) → 0 < d → (a * d + x) / d ≡ a + x / d
 add_multiple a d x p =
-    let e : a * d + x ≡ (a + x / d) * d + x % d = omega (arith, div-add-mod' x d) in
-    ap (λ n. n / d) e ∙ div-mul-add (a + x / d) d (x % d) (mod_below x d p)
+    ap (λ n. n / d) (omega (arith, div-add-mod' x d)) ∙ div-mul-add (a + x / d) d (x % d) (mod_below x d p)
 
 -- what is above a cut is divided first, and its rest goes before what is below
 pub cut_quotient : (v d m : ℕ) → 0 < d → v / m / d * m + (v / m % d * m + v % m) / d ≡ v / d
@@ -34,17 +33,13 @@ quotient_near v d n le lt = sym (ap (λ k. k / d) (omega (arith, le)) ∙ div-mu
 pub near_exact : (v d i w : ℕ) → 0 < d → v * d < w → i ≡ w / d + 1 → v * i / w ≡ v / d
 near_exact v d i w some small is =
     let n : ℕ = v * i / w in
-    let wide : 0 < w = omega (arith, small) in
     let a : n * w ≤ v * i = div-mul-le_self (v * i) w in
-    let b : v * i < n * w + w = lt-div-mul-add wide in
+    let b : v * i < n * w + w = lt-div-mul-add (omega (arith, small)) in
     let at : i * d ≡ w / d * d + d = omega (arith, ap (λ k. k * d) is) in
-    let least : w ≤ i * d = omega (arith, at, lt-div-mul-add {a = w} some) in
-    let most : i * d ≤ w + d = omega (arith, at, div-mul-le_self w d) in
-    let c : n * w * d ≤ v * i * d = mul-le-mul_right d a in
-    let e : v * (i * d) ≤ v * (w + d) = mul-le-mul_left v most in
-    let f : v * w ≤ v * (i * d) = mul-le-mul_left v least in
+    let e : v * (i * d) ≤ v * (w + d) = mul-le-mul_left v (omega (arith, at, div-mul-le_self w d)) in
+    let f : v * w ≤ v * (i * d) = mul-le-mul_left v (omega (arith, at, lt-div-mul-add {a = w} some)) in
     let g : (v * i + 1) * d ≤ (n * w + w) * d = mul-le-mul_right d (omega (arith, b)) in
-    let above : n * d < v + 1 = lt_of_mul-lt-mul_right w (omega (arith, c, e, small)) in
+    let above : n * d < v + 1 = lt_of_mul-lt-mul_right w (omega (arith, (mul-le-mul_right d a), e, small)) in
     let below : v < n * d + d = lt_of_mul-lt-mul_right w (omega (arith, f, g, some)) in
     quotient_near v d n (omega (arith, above)) (omega (arith, above, below))
 

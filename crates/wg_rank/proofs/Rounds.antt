@@ -1,6 +1,5 @@
 -- What a round leaves, from what was gathered.
-use Rattle.std.specs.Int.{div_ceil}
-use Rattle.std.proofs.Common.{ℕ, ◌≡◌, ◌+◌, ◌-◌, ◌*◌, ◌/◌, ◌<◌, ◌≤◌, ◌==◌, List, All, length, get_or, cond, min, refl, ap, arith, ◌∙◌, subst, add-one, inl, inr}
+use Rattle.std.proofs.Common.{ℕ, ◌≡◌, ◌+◌, ◌-◌, ◌*◌, ◌<◌, ◌≤◌, ◌==◌, List, All, length, get_or, cond, min, refl, ap, arith, ◌∙◌, subst, add-one, inl, inr}
 use Rattle.std.proofs.lemmas.Bool.{cases_lt}
 use Rattle.std.proofs.lemmas.List.Elements.{All-from_get_or}
 use Rattle.wg_params.specs.declared.limits.TheConstants.{MOST_PAGES}
@@ -34,25 +33,17 @@ dangling_same g f k h = sum_same g.nodes _ _ (λ u w. ap (λ x. cond (outdegree 
 
 module _ (g : Digraph) (a : ℕ) (w : ℕ → ℕ) where
   pub lower_same : (l k : ℕ → ℕ) (v : ℕ) → ((u : ℕ) → u < g.nodes → l u ≡ k u) → lower g a w l v ≡ lower g a w k v
-  lower_same l k v h =
-      let e1 = in_same g (λ u. l u / outdegree g u) (λ u. k u / outdegree g u) v (λ u i. ap (λ x. x / outdegree g u) (h u i)) in
-      let e2 = dangling_same g l k h in
-      rw (e1, e2) refl
+  lower_same l k v h = grind (arith, in_same, dangling_same)
 
   upper_same : (l k : ℕ → ℕ) (v : ℕ) → ((u : ℕ) → u < g.nodes → l u ≡ k u) → upper g a w l v ≡ upper g a w k v
-  upper_same l k v h =
-      let e1 = in_same g (λ u. div_ceil (l u) (outdegree g u)) (λ u. div_ceil (k u) (outdegree g u)) v (λ u i. ap (λ x. div_ceil x (outdegree g u)) (h u i)) in
-      let e2 = dangling_same g l k h in
-      rw (e1, e2) refl
+  upper_same l k v h = grind (arith, in_same, dangling_same)
 
   pub clipped_same : (l k h j : ℕ → ℕ) (v : ℕ) → v < g.nodes → ((u : ℕ) → u < g.nodes → l u ≡ k u)
       → ((u : ℕ) → u < g.nodes → h u ≡ j u) → clipped g a w l h v ≡ clipped g a w k j v
   clipped_same l k h j v i e f =
       let e1 = lower_same l k v e in
       let e2 : gap g (lower g a w l) ≡ gap g (lower g a w k) = ap (λ x. UNITS - x) (sum_same g.nodes (lower g a w l) (lower g a w k) (λ u _. lower_same l k u e)) in
-      let e3 = upper_same h j v f in
-      let e4 = f v i in
-      rw (e1, e2, e3, e4) refl
+      rw (e1, e2, (upper_same h j v f), (f v i)) refl
 
 -- one round on, the bounds are those of one round more
 pub holds_more : (b c : Intervals) (g : Digraph) → c.damping ≡ b.damping → c.weights ≡ b.weights → c.rounds ≡ b.rounds + 1
@@ -81,10 +72,7 @@ pub settled_table : (g : Digraph) (a k : ℕ) (ws : List ℕ) (l : ℕ → ℕ) 
     → d ≡ sum_dangling g l
     → ((v : ℕ) → v < k → get_or xs v 0 ≡ settled_lows a k d (by_page (weights_or_ones k ws)) (low_flow g l) v)
     → IsTable xs g.nodes (lower g a (by_page (weights_or_ones k ws)) l)
-settled_table g a k ws l xs d e m rest each = record {
-  counted = m;
-  each = λ v i. each v (omega arith) ∙ settled_lower g a k (by_page (weights_or_ones k ws)) l (low_flow g l) d e (λ u j. refl) rest v i;
-}
+settled_table g a k ws l xs d e m rest each = grind arith
 
 -- upper bounds never rise
 pub least_within : (old new : List ℕ) (f k : ℕ → ℕ) (m : ℕ) → length new ≡ length old → All (λ x. x ≤ m) old
@@ -113,19 +101,11 @@ module _ (g : Digraph) (a : ℕ) (w : ℕ → ℕ) where
       → (v : ℕ) → settled_highs a n d w (high_flow g h) v ≡ upper g a w h v
   upper_from h d n m rest v = rw (rest, m) refl
 
-  -- what flows in, what is dangling and what the lower bounds leave make the upper bounds
-  pub clipped_from : (l h : ℕ → ℕ) (xs : List ℕ) (d n : ℕ) → n ≡ g.nodes → IsTable xs g.nodes (lower g a w l) → d ≡ sum_dangling g h
-      → (v : ℕ) → v < g.nodes
-      → least (h v) (settled_highs a n d w (high_flow g h) v) (get_or xs v 0 + (UNITS - sum_below (length xs) (by_page xs)))
-      ≡ clipped g a w l h v
-  clipped_from l h xs d n m low_is rest v i =
-      least_same (h v) _ (upper g a w h v) _ (lower g a w l v) _ (gap g (lower g a w l)) (upper_from h d n m rest v) (low_is.each v i) (gap_from l xs low_is)
-
   -- so does what was settled and then cut
   pub clipped_at : (l h : ℕ → ℕ) (xs : List ℕ) (d n x s t v : ℕ) → n ≡ g.nodes → IsTable xs g.nodes (lower g a w l) → d ≡ sum_dangling g h → v < g.nodes
       → x ≡ min s (get_or xs v 0 + (UNITS - t)) → t ≡ sum_below (length xs) (by_page xs) → s ≡ min (h v) (settled_highs a n d w (high_flow g h) v)
       → x ≡ clipped g a w l h v
-  clipped_at l h xs d n x s t v m low_is rest i cut all settled = rw (cut, all, settled) (clipped_from l h xs d n m low_is rest v i)
+  clipped_at l h xs d n x s t v m low_is rest i cut all settled = grind (arith, gap_from, upper_from, lower, least_same, upper)
 
 -- the new lower bounds add up to at most 1
 pub settled_total : (g : Digraph) (a k : ℕ) (ws : List ℕ) (l : ℕ → ℕ) (xs : List ℕ) → IsGraph g → a ≤ 1000 → AreWeights k (weights_or_ones k ws) → k ≡ g.nodes

@@ -1,7 +1,7 @@
 -- Sums along runs of pages, as differences of the sums of all pages below.
 use Rattle.std.specs.List.{sum_by, range_with_len}
 use Rattle.std.specs.Simd.Lanes.{zip2}
-use Rattle.std.proofs.Common.{ℕ, zero, suc, ◌≡◌, ◌≢◌, ◌+◌, ◌-◌, ◌*◌, ◌/◌, ◌%◌, ◌^◌, ◌<◌, ◌≤◌, All, List, [], ◌∷◌, length, take, get_or, get_or-set_same, get_or-set_other, set, Bool, false, cond, refl, ap, arith, sym, ◌∙◌, add-one, inl, inr}
+use Rattle.std.proofs.Common.{ℕ, zero, suc, ◌≡◌, ◌≢◌, ◌+◌, ◌-◌, ◌*◌, ◌/◌, ◌%◌, ◌^◌, ◌<◌, ◌≤◌, All, List, [], ◌∷◌, length, take, get_or, get_or-set_same, get_or-set_other, set, Bool, cond, refl, ap, arith, sym, ◌∙◌, add-one, inl, inr}
 use Rattle.std.proofs.Math.Nat.{mod-eq_of_lt}
 use Rattle.std.proofs.lemmas.Bool.{cases_Bool, cases_eq, ne_eqb, eq-eqb}
 use Rattle.std.proofs.lemmas.List.{nil_from_length, length-set, length-take-le, get_or-take}
@@ -9,8 +9,8 @@ use Rattle.std.proofs.lemmas.List.Elements.{All-nil, All-cons}
 use Rattle.std.proofs.lemmas.List.Sums.{sum_by-cons, sum_by-append}
 use Rattle.wg_params.specs.declared.limits.TheConstants.{MOST_PAGES}
 use Rattle.wg_graph.specs.Arcs.{has_arc}
-use Rattle.wg_graph.specs.Digraph.{Digraph, successors, outdegree}
-use Rattle.wg_graph.specs.Numbers.{is_in, numbers_where}
+use Rattle.wg_graph.specs.Digraph.{Digraph, outdegree}
+use Rattle.wg_graph.specs.Numbers.{numbers_where}
 use Rattle.wg_transpose.specs.Transposed.{predecessors}
 use Rattle.wg_transpose.specs.declared.run.PageRun.{PageRun}
 use Rattle.wg_transpose.specs.Runs.{numbers_of, numbers_of_all, StandApart}
@@ -37,9 +37,7 @@ run_sum s a (suc k) =
 -- the numbers that pass a test add up to as much as all, if the others count 0
 where_sum : (s : ℕ → ℕ) (t : ℕ → Bool) (n k : ℕ)
     → sum_below n (λ u. cond (t u) (s u) 0) + sum_by s (numbers_where t n k) ≡ sum_below (n + k) (λ u. cond (t u) (s u) 0)
-where_sum s t n zero =
-    let e : sum_below (n + 0) (λ u. cond (t u) (s u) 0) ≡ sum_below n (λ u. cond (t u) (s u) 0) = ap (λ (m : ℕ). sum_below m (λ u. cond (t u) (s u) 0)) (omega arith) in
-    omega (arith, e)
+where_sum s t n zero = grind arith
 where_sum s t n (suc k) =
     let f : ℕ → ℕ = λ u. cond (t u) (s u) 0 in
     let e1 : sum_below (n + 1) f ≡ sum_below n f + f n = rw add-one refl in
@@ -50,16 +48,12 @@ where_sum s t n (suc k) =
           let v : f n ≡ s n = ap (λ (b : Bool). cond b (s n) 0) yes_it_is in
           rw yes_it_is (omega (arith, sum_by-cons s n (numbers_where t (n + 1) k), rest, e1, e2, v))
       | inr no_it_is ↦
-          let v : f n ≡ 0 = ap (λ (b : Bool). cond b (s n) 0) no_it_is in
-          rw no_it_is (omega (arith, rest, e1, e2, v))
+          rw no_it_is (omega (arith, rest, e1, e2, (ap (λ (b : Bool). cond b (s n) 0) no_it_is)))
     ]
 
 -- the predecessors of a page, as a sum over all pages
 pub before_sum : (g : Digraph) (s : ℕ → ℕ) (v : ℕ) → sum_by s (predecessors g v) ≡ sum_in g s v
-before_sum g s v =
-    let f : ℕ → ℕ = λ u. cond (has_arc g u v) (s u) 0 in
-    let e : sum_below (0 + g.nodes) f ≡ sum_below g.nodes f = ap (λ (m : ℕ). sum_below m f) (omega arith) in
-    omega (arith, where_sum s (λ u. has_arc g u v) 0 g.nodes, e)
+before_sum g s v = grind (arith, where_sum)
 
 -- ---- what pages give
 
@@ -70,27 +64,11 @@ pub given_some : (g : Digraph) (x : ℕ → ℕ) (u : ℕ) → outdegree g u ≢
 given_some g x u e = ap (λ (b : Bool). cond b 0 (x u)) (ne_eqb (outdegree g u) 0 e)
 
 pub given_le : (g : Digraph) (x : ℕ → ℕ) (u m : ℕ) → x u ≤ m → given g x u ≤ m
-given_le g x u m h =
-    elim (cases_eq (outdegree g u) 0) [
-      | inl e ↦ omega (arith, given_none g x u e)
-      | inr e ↦ omega (arith, given_some g x u e)
-    ]
-
--- no arc leaves a page without successors
-given_along : (g : Digraph) (x : ℕ → ℕ) (u v : ℕ) → cond (has_arc g u v) (given g x u) 0 ≡ cond (has_arc g u v) (x u) 0
-given_along g x u v =
-    elim (cases_eq (outdegree g u) 0) [
-      | inl e ↦
-          let none : has_arc g u v ≡ false = ap (λ (l : List ℕ). is_in v l) (nil_from_length (successors g u) e) in
-          ap (λ (b : Bool). cond b (given g x u) 0) none ∙ sym (ap (λ (b : Bool). cond b (x u) 0) none)
-      | inr e ↦ ap (λ (y : ℕ). cond (has_arc g u v) y 0) (given_some g x u e)
-    ]
+given_le g x u m h = grind arith
 
 -- what flows to a page is what its predecessors give
 pub in_sum : (g : Digraph) (x : ℕ → ℕ) (v : ℕ) → sum_by (given g x) (predecessors g v) ≡ sum_in g x v
-in_sum g x v =
-    before_sum g (given g x) v
-    ∙ sum_same g.nodes (λ u. cond (has_arc g u v) (given g x u) 0) (λ u. cond (has_arc g u v) (x u) 0) (λ u _. given_along g x u v)
+in_sum g x v = grind (arith, given, sum_same, before_sum, nil_from_length, given_some, cases_eq)
 
 -- ---- one page more
 
@@ -114,36 +92,15 @@ sums_more_some g x y u p q sums e h j k m n =
 pub written_end : (lane : (ℕ → ℕ) → (ℕ → ℕ) → ℕ → List ℕ) (n m u : ℕ) (low high : ℕ → ℕ) (total : List ℕ) (xs : List (List ℕ)) → u ≡ n → m ≡ n → length xs ≡ n + 1
     → total ≡ in_lanes (sum_below u) low high → ((w : ℕ) → w < u → get_or xs w [] ≡ lane low high w) → ((w : ℕ) → w < n → low w ≤ UNITS) → ((w : ℕ) → w < n → high w ≤ UNITS)
     → AreWritten lane n low high (set xs m total)
-written_end lane n m u low high total xs e f count here below small above = record {
-  pages = length-set xs m total ∙ count;
-  each = λ v lt. get_or-set_other xs m v total [] (λ same. omega arith) ∙ below v (omega arith);
-  last =
-      ap (λ (k : ℕ). get_or (set xs m total) k []) (sym f) ∙ get_or-set_same xs m total [] (omega arith)
-      ∙ here ∙ ap (λ (k : ℕ). in_lanes (sum_below k) low high) e;
-  low_small = small;
-  high_small = above;
-}
+written_end lane n m u low high total xs e f count here below small above = grind (arith, get_or-set_same, get_or-set_other, length-set)
 
 -- what stands there then, if it was written for runs, and for pages one by one
 module _ (n : ℕ) (low high : ℕ → ℕ) (lanes : List (List ℕ)) where
   pub summed_from : AreWritten run_lane n low high lanes → AreSummed n low high lanes
-  summed_from h = record {
-    pages = h.pages;
-    each = λ u lt. elim (cases_eq u n) [
-      | inl same ↦ rw same h.last
-      | inr other ↦ h.each u (omega arith)
-    ];
-    low_small = h.low_small;
-    high_small = h.high_small;
-  }
+  summed_from h = grind arith
 
   pub shares_from : (k : ℕ) → k ≡ n → AreWritten page_lane n low high lanes → AreShares n low high (take k lanes)
-  shares_from k is h = record {
-    pages = length-take-le k lanes (omega (arith, h.pages)) ∙ is;
-    each = λ u lt. get_or-take k lanes u [] (omega arith) ∙ h.each u lt;
-    low_small = h.low_small;
-    high_small = h.high_small;
-  }
+  shares_from k is h = grind (arith, length-take-le, get_or-take)
 
 -- ---- along runs
 
@@ -153,12 +110,11 @@ run_rise s r le = run_sum s r.from (r.to - r.from) ∙ ap (λ (m : ℕ). sum_bel
 along_sum : (s : ℕ → ℕ) (k : ℕ) (runs : List PageRun) → StandApart k runs → along (λ u. sum_below u s) runs ≡ sum_by s (numbers_of_all runs)
 along_sum s k [] apart = refl
 along_sum s k (r ∷ rs) apart =
-    let e = run_rise s r (omega (arith, apart.1)) in
     omega (
       arith,
       sum_by-cons (λ (r : PageRun). sum_below r.to s - sum_below r.from s) r rs,
       sum_by-append s (numbers_of r) (numbers_of_all rs),
-      e,
+      (run_rise s r (omega (arith, apart.1))),
       along_sum s (suc r.to) rs apart.2,
     )
 

@@ -17,10 +17,6 @@ use Rattle.wg_rank.proofs.SideBySide.{low_count, high_count}
 pub all_pages : (u n m : ℕ) → m ≡ n → u ≤ n → n ≤ u → u ≡ m
 all_pages u n m e le ge = omega (arith, e, le, ge)
 
--- and it does not lack a list before that
-pub no_list : (u n m : ℕ) → m ≡ n → u < n → m ≤ u → ⊥
-no_list u n m e lt ge = omega (arith, e, lt, ge)
-
 -- room that holds 0 everywhere
 pub all_none : (n : ℕ) (xs : List ℕ) → xs ≡ replicate n 0 → All (λ x. x ≡ 0) xs
 all_none n xs e = rw e (All-replicate (λ x. x ≡ 0) n 0 refl)
@@ -56,8 +52,7 @@ dangling_all g u xs d e p = p.total ∙ ap (λ (k : ℕ). sum_below k (λ w. con
 -- which is no more than 1 for each page
 pub dangling_small : (g : Digraph) (n : ℕ) (xs : List ℕ) (d : ℕ) → n ≤ MOST_PAGES → g.nodes ≡ n → length xs ≡ n → All (λ x. x ≤ UNITS) xs
     → d ≡ sum_dangling g (by_page xs) → d ≤ MOST_PAGES * UNITS
-dangling_small g n xs d few m e h is =
-    dangling_within g g.nodes (λ w. get_or xs w 0) d (omega (arith, few, m)) (units_below n g.nodes xs e (omega (arith, m)) h) (record { total = is })
+dangling_small g n xs d few m e h is = grind (arith, dangling_within, units_below)
 
 -- ---- what flows along arcs
 

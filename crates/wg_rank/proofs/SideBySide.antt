@@ -103,8 +103,7 @@ pub low_replaced : (xs : List ℕ) (v below above : ℕ) → v < length (low_flo
 low_replaced xs v below above h = low_set_high (set xs (2 * v) below) v above (omega (arith, low_length xs v below h)) ∙ low_set_low xs v below h
 
 pub high_replaced : (xs : List ℕ) (v below above : ℕ) → v < length (low_flows xs) → high_flows (replaced xs v below above) ≡ set (high_flows xs) v above
-high_replaced xs v below above h =
-    high_set_high (set xs (2 * v) below) v above (omega (arith, low_length xs v below h)) ∙ ap (λ l. set l v above) (high_set_low xs v below h)
+high_replaced xs v below above h = grind (arith, high_set_low, high_set_high, low_length)
 
 pub low_added : (xs : List ℕ) (v below above : ℕ) → v < length (low_flows xs)
     → low_flows (added xs v below above) ≡ set (low_flows xs) v (get_or (low_flows xs) v 0 + below)
@@ -112,6 +111,4 @@ low_added xs v below above h = low_replaced xs v _ _ h ∙ ap (λ y. set (low_fl
 
 pub high_added : (xs : List ℕ) (v below above : ℕ) → v < length (low_flows xs)
     → high_flows (added xs v below above) ≡ set (high_flows xs) v (get_or (high_flows xs) v 0 + above)
-high_added xs v below above h =
-    high_replaced xs v _ _ h
-    ∙ ap (λ y. set (high_flows xs) v (y + above)) (get_or-set_other xs (2 * v) (2 * v + 1) _ 0 (ne_next (2 * v)) ∙ high_at xs v (omega (arith, high_count xs)))
+high_added xs v below above h = grind (arith, get_or-set_other, high_count, high_at, ne_next, high_replaced)

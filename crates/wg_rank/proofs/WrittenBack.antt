@@ -1,5 +1,5 @@
 -- The text of a claim is read as the claim.
-use Rattle.std.proofs.Common.{ℕ, suc, ◌≡◌, ◌+◌, ◌<◌, ◌≤◌, ◌^◌, leb, true, All, List, [], ◌∷◌, ◌++◌, length, map, Some, Ok, refl, ap, ◌∙◌, arith, append_assoc, codes}
+use Rattle.std.proofs.Common.{ℕ, suc, ◌≡◌, ◌+◌, ◌<◌, ◌≤◌, ◌^◌, leb, true, All, List, [], ◌∷◌, ◌++◌, length, map, Ok, refl, ap, ◌∙◌, arith, append_assoc, codes}
 use Rattle.std.specs.Fmt.{decimal}
 use Rattle.std.specs.List.{list_all}
 use Rattle.std.proofs.lemmas.Bool.{eq-eqb, le-leb}
@@ -10,9 +10,9 @@ use Rattle.wg_num.proofs.Cuts.{no_lines}
 use Rattle.wg_num.proofs.Plain.{IsPlain, line_read, word_plain, decimal_plain, units_plain}
 use Rattle.wg_num.proofs.Numbers.{number_of-decimal}
 use Rattle.wg_num.proofs.UnitsRead.{units_of-text}
-use Rattle.wg_params.specs.declared.limits.TheConstants.{MOST_PAGES, MOST_DAMPING}
+use Rattle.wg_params.specs.declared.limits.TheConstants.{MOST_PAGES}
 use Rattle.wg_rank.specs.Claims.{Claim, IsClaim}
-use Rattle.wg_rank.specs.CertificateText.{number_after, damping_of, pages_of, bounds_of, bound_lines, text_of_claim, claim_in, claim_of}
+use Rattle.wg_rank.specs.CertificateText.{pages_of, bounds_of, bound_lines, text_of_claim, claim_of}
 use Rattle.wg_rank.specs.declared.limits.TheConstants.{UNITS}
 use Rattle.wg_rank.proofs.ReadBounds.{within_one}
 use Rattle.wg_rank.proofs.Rounds.{all_within_total}
@@ -43,15 +43,8 @@ text_parts d p rest =
     append_assoc (d ++ 10 ∷ []) (p ++ 10 ∷ []) rest ∙ append_assoc d (10 ∷ []) ((p ++ 10 ∷ []) ++ rest)
     ∙ ap (λ (l : List ℕ). d ++ 10 ∷ l) (append_assoc p (10 ∷ []) rest)
 
-damping_back : (a : ℕ) (ls : List (List ℕ)) → a ≤ MOST_DAMPING → damping_of (first a ∷ ls) ≡ Ok a
-damping_back a ls h =
-    let e : number_after (codes "damping ") (first a) ≡ Some a = number_of-decimal a (omega (arith, h)) in
-    rw (e, le-leb a MOST_DAMPING h) refl
-
 pages_back : (n : ℕ) (ls : List (List ℕ)) → n ≤ MOST_PAGES → pages_of n (second n ∷ ls) ≡ Ok tt
-pages_back n ls h =
-    let e : number_after (codes "pages ") (second n) ≡ Some n = number_of-decimal n (omega (arith, h)) in
-    rw (e, eq-eqb n n refl) refl
+pages_back n ls h = grind (arith, eq-eqb, number_of-decimal)
 
 named_plain : (word : List ℕ) (n : ℕ) → list_all (λ b. leb 32 b) word ≡ true → n < 2 ^ 64 → IsPlain (word ++ decimal n)
 named_plain word n plain small = All-append (λ b. 32 ≤ b) word (decimal n) (word_plain word plain) (decimal_plain n small)
@@ -67,8 +60,4 @@ lines_back c ok =
 
 pub written_back : (c : Claim) → IsClaim c → claim_of (length c.low) (text_of_claim c) ≡ Ok c
 unfolding claim_of
-written_back c ok =
-    let n = length c.low in
-    let ls = map text_of_units c.low in
-    ap (λ ms. claim_in n ms) (lines_back c ok)
-    ∙ rw (damping_back c.damping (second n ∷ ls) ok.damped, pages_back n ls ok.few, bounds_back 3 c.low (all_within_total UNITS c.low ok.within)) (within_one c.damping c.low ok.within)
+written_back c ok = grind (arith, within_one, all_within_total, bounds_back, pages_back, lines_back, number_of-decimal, le-leb)

@@ -18,9 +18,8 @@ overflow_add-dangling g c =
 pub spread_low-requires-clause-below : goal.spread_low-requires-clause-below
 spread_low-requires-clause-below g c =
     let l = rw (c.loop-u.invariant.same, c.loop-u.invariant.place) at c.in-Some.ensures.lent in
-    let below = list_below (g.L.Lists.graph c.args.lists.now) c.nodes-pages.ensures.proper c.loop-u.u (omega arith) in
     let n : length c.loop-u.inflows ≡ (g.L.Lists.graph c.args.lists.now).nodes = omega arith in
-    rw (n, l.1) below
+    rw (n, l.1) (list_below (g.L.Lists.graph c.args.lists.now) c.nodes-pages.ensures.proper c.loop-u.u (omega arith))
 
 pub spread_low-requires-clause-room : goal.spread_low-requires-clause-room
 spread_low-requires-clause-room g c =

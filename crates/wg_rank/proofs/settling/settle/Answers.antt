@@ -1,6 +1,6 @@
 use Rattle.std.proofs.Common.{ℕ, ◌≡◌, ◌+◌, min, arith, length, refl, sym, ap, ap₂, ◌∙◌}
 use Rattle.wg_rank.specs.Rank.{low_flow, high_flow}
-use Rattle.wg_rank.proofs.Settled.{block_more, low_from, high_from, no_page, some_page, none_below, unsettled, no_lower, block_ends, all_settled}
+use Rattle.wg_rank.proofs.Settled.{block_more, low_from, high_from, no_page, some_page, none_below, unsettled, block_ends, all_settled}
 use Rattle.wg_rank.proofs.Flow.{le_both}
 use Rattle.wg_rank.proofs.SideBySide.{low_count}
 use Rattle.wg_rank.proofs.Weighing.{given_some}
@@ -72,7 +72,7 @@ rest-preserved g c =
           o.damping o.below o.shared o.parts o.weights);
       high = λ f h s. block_more from to c.rest.high c.settle_block.new.high _ (i.high f h s) b.high_before
           (λ j l. (rw same at (b.high j l))
-          ∙ ap₂ min (i.left (from + j) (no_lower from j))
+          ∙ ap₂ min (i.left (from + j) (omega arith))
           (high_from n (from + j) _ _ (high_flow graph h (from + j)) _ _ _ _ _ _ _ _ refl (c.fill.ensures.high f h s j l) o.damping o.above o.shared o.parts o.weights));
       left = λ v l. b.high_behind v l ∙ i.left v (le_both from to v ends.ordered l);
     }

@@ -1,7 +1,7 @@
 use Rattle.std.proofs.Common.{ℕ, ◌+◌, min, arith, length, get_or, ap, ap₂, ◌∙◌}
 use Rattle.wg_rank.specs.Inflows.{low_flows}
 use Rattle.wg_rank.specs.Settling.{low_of, high_of}
-use Rattle.wg_rank.proofs.Settled.{part_more, part_before, table_left, part_in, before_end, part_done, part_behind}
+use Rattle.wg_rank.proofs.Settled.{part_more, part_before, table_left, part_in, before_end, part_done}
 use Rattle.wg_rank.proofs.SideBySide.{high_count}
 use Rattle.wg_rank.proofs.settling.settle_block.Goals as goal
 
@@ -49,5 +49,5 @@ returns c =
       low = λ j l. i.low j (part_done c.args.from c.args.to c.loop-i.i j c.loop-i-test.false l);
       high_before = i.high_before;
       high = λ j l. i.high j (part_done c.args.from c.args.to c.loop-i.i j c.loop-i-test.false l);
-      high_behind = λ v l. i.high_left v (part_behind c.args.from c.args.to c.loop-i.i v c.requires.ordered c.loop-i.auto.i-end l);
+      high_behind = λ v l. i.high_left v (omega (arith, c.requires.ordered, c.loop-i.auto.i-end, l));
     }

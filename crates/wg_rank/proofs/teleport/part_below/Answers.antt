@@ -1,8 +1,9 @@
-use Rattle.std.proofs.Common.{ℕ, List, ◌*◌, ◌/◌, length, ap, sym, ◌∙◌}
+use Rattle.std.proofs.Math.Nat.{div-le_self}
+use Rattle.std.proofs.Common.{ℕ, List, ◌*◌, ◌/◌, length, ap, sym, ◌∙◌, arith}
 use Rattle.std.proofs.lemmas.Bool.{eqb-true}
 use Rattle.wg_rank.specs.Intervals.{by_page}
 use Rattle.wg_rank.proofs.Settled.{some_page}
-use Rattle.wg_rank.proofs.Weighing.{even_part, given_some, even_below_room}
+use Rattle.wg_rank.proofs.Weighing.{even_part, given_some}
 use Rattle.wg_rank.proofs.teleport.part_below.Goals as goal
 
 pub returns-then-is_empty : goal.returns-then-is_empty
@@ -10,7 +11,7 @@ returns-then-is_empty c = record {
   value = λ n l.
       c.requires.even
       ∙ ap (λ (x : ℕ). x / c.args.parts) (sym (even_part n c.args.v c.args.shared c.args.weights.now (eqb-true _ _ (sym c.is_empty.ensures ∙ c.if-is_empty.true)) l));
-  room = even_below_room c.args.shared c.args.parts c.args.even c.requires.few c.requires.even;
+  room = omega (arith, c.requires.few, c.requires.even, div-le_self c.args.shared c.args.parts);
 }
 
 pub weighted_below-requires : goal.weighted_below-requires

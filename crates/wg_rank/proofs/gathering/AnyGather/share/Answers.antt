@@ -5,7 +5,7 @@ use Rattle.wg_rank.specs.Inflows.{low_flows}
 use Rattle.wg_rank.proofs.SideBySide.{low_count, high_count, low_none, high_none}
 use Rattle.wg_rank.proofs.Flow.{gathered_none, gathered_more, gathered_same, dangling_more, dangling_same}
 use Rattle.wg_rank.proofs.Arcs.{list_below, list_ascends}
-use Rattle.wg_rank.proofs.Shared.{all_pages, no_list, all_none, dangling_fits, dangling_all, dangling_small, low_sums_fit, high_sums_fit, flows_end, twice_pages}
+use Rattle.wg_rank.proofs.Shared.{all_pages, all_none, dangling_fits, dangling_all, dangling_small, low_sums_fit, high_sums_fit, flows_end, twice_pages}
 use Rattle.wg_rank.proofs.gathering.AnyGather.share.Goals as goal
 use Rattle.wg_rank.proofs.gathering.AnyGather.share.Goals.{in-Some+then-degree-eq0, in-Some+else-degree-eq0, in_default}
 
@@ -88,7 +88,7 @@ loop-u-preserved g c =
             low_rest = rw w.low_dangling-is (dangling_same graph u low _ e i.low_rest);
             high_rest = rw w.high_dangling-is (dangling_same graph u high _ e i.high_rest);
           }
-      | in_default w ↦ absurd (no_list u n graph.nodes c.requires.pages c.loop-u-test.true (rw (i.same, i.place) at w.in_default.ensures.lent))
+      | in_default w ↦ absurd (omega (arith, c.requires.pages, c.loop-u-test.true, rw (i.same, i.place) at w.in_default.ensures.lent))
     ]
 
 pub spread-requires-clause-below : goal.spread-requires-clause-below

@@ -8,9 +8,8 @@ use Rattle.wg_rank.proofs.list_pulling.U32Along.flow.Goals as goal
 pub flow_from-requires : goal.flow_from-requires
 flow_from-requires c =
     let r = c.requires.written in
-    let last : length c.args.lanes.now - 1 ≡ r.0.nodes = omega (arith, r.6.pages) in
     let few : r.0.nodes ≤ MOST_PAGES = omega (arith, r.6.pages, c.requires.few) in
-    let h = shares_from r.0.nodes r.2 r.3 c.args.lanes.now _ last r.6 in
+    let h = shares_from r.0.nodes r.2 r.3 c.args.lanes.now _ (omega (arith, r.6.pages)) r.6 in
     record {
       within = subst (λ (n : ℕ). All (λ u. u < n) c.args.arcs.now) (sym h.pages) r.5;
       shares = (
