@@ -8,7 +8,7 @@ use Rattle.wg_transpose.specs.SoFar.{onward, start}
 use Rattle.wg_transpose.proofs.InOrder.{all_lists, one_list_more}
 use Rattle.wg_transpose.proofs.Totals.{start_le}
 use Rattle.wg_transpose.proofs.Whole.{from_none}
-use Rattle.wg_shape.specs.Quotient.{IsQuotient, quotient_of}
+use Rattle.wg_shape.specs.Quotient.{IsQuotient}
 use Rattle.wg_shape.specs.Classes.{Classes, AreClasses, arcs_from, reached_by, whole}
 use Rattle.wg_shape.proofs.Quotients.{is_proper, is_quotient}
 use Rattle.wg_shape.proofs.Fewer.{fewer, few_by_class}
@@ -42,9 +42,6 @@ finished p b q k all nodes lists q_nodes q_lists =
     λ i. record { nodes = count i; lists = same i }
 
 module _ (p : Classes) (ok : AreClasses p) (g : Digraph) (classes : List ℕ) (n : ℕ) (q : Digraph) (graph : p.graph ≡ g) (list : p.classes ≡ classes) (count : p.count ≡ n) (is : q ≡ whole p) where
-  pub is_made : q ≡ quotient_of g classes n
-  is_made = is ∙ (λ i. quotient_of (graph i) (list i) (count i))
-
   same : p ≡ record { graph = g; classes = classes; count = n }
   same = λ i. record { graph = graph i; classes = list i; count = count i }
 

@@ -19,11 +19,11 @@ pub front_gives : (old new : List ℕ) (answer : Option ℕ) → Gives old answe
 front_gives old new None h = sym h.0
 front_gives old new (Some x) h = sym h
 
+pub all_ascend : (a b now : List ℕ) → union_of a b ≡ now → Ascends 0 a → Ascends 0 b → Ascends 0 now
+all_ascend a b now is up_a up_b = subst (Ascends 0) is (union_ascends 0 a b up_a up_b)
+
 module _ (first second : Option ℕ) (a b now : List ℕ) (x : ℕ) (view : union_of (front first a) (front second b) ≡ now)
     (up_a : Ascends 0 (front first a)) (up_b : Ascends 0 (front second b)) where
-  pub all_ascend : Ascends 0 now
-  all_ascend = subst (Ascends 0) view (union_ascends 0 (front first a) (front second b) up_a up_b)
-
   pub took_first : (answer : Option ℕ) (later : List ℕ) → first ≡ Some x → Gives a answer later → Ascends (suc x) (front second b) → now ≡ x ∷ union_of (front answer later) (front second b)
   took_first answer later is gives above =
       let up : Ascends 0 (x ∷ a) = subst (λ (o : Option ℕ). Ascends 0 (front o a)) is up_a in

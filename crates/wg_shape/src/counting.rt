@@ -10,6 +10,7 @@ ghost use Rattle.wg_shape.specs.Classes.{reached_by};
 use wg_graph::Lists;
 
 // Counts the arcs of each page at its class.
+#[tactic(auto, using(wg_transpose::proofs::Seen::member_below))]
 pub(crate) fn count<L: Lists>(lists: &mut L, classes: &[u64], counts: &mut [u64])
     requires few { arc_count (L.graph lists.old) ≤ MOST_ARCS }
     requires each { length classes.now ≡ (L.graph lists.old).nodes }

@@ -48,6 +48,7 @@ impl<A: Coming, B: Coming> Merge<A, B> {
 impl<A: Coming, B: Coming> Coming for Merge<A, B> {
     ghost coming = { λ m. m };
 
+    #[tactic(auto, using(crate::proofs::Unions::all_ascend))]
     fn next(&mut self) -> Option<u64> {
         match (self.first, self.second) {
             (None, None) => None,

@@ -12,6 +12,7 @@ use wg_transpose::{Placing, put_in_range};
 
 // Puts the classes of the successors of a page, whose list was read, at the end of the list of its class, if that is
 // one of those from class `from` on.
+#[tactic(auto, using(wg_transpose::proofs::Seen::member_below))]
 fn place_page(
     page: u64,
     list: &[u64],

@@ -1,16 +1,9 @@
 use Rattle.std.proofs.Common.{◌+◌, length, take, get_or, arith}
-use Rattle.wg_transpose.proofs.Seen.{member_below}
 use Rattle.wg_transpose.proofs.Steps.{place_below, place_step}
 use Rattle.wg_shape.specs.Quotient.{class_of}
 use Rattle.wg_shape.specs.Classes.{reached_by}
 use Rattle.wg_shape.proofs.Reached.{with_arcs, class_more, class_fits, page_end}
 use Rattle.wg_shape.proofs.placing.place_page.Goals as goal
-
-pub offset_bounds-classes-target : goal.offset_bounds-classes-target
-offset_bounds-classes-target c = omega (arith, member_below (length c.args.classes.now) c.loop-target.target-index c.args.list.now c.requires.below (omega arith))
-
-pub bounds-classes-target : goal.bounds-classes-target
-bounds-classes-target c = omega (arith, member_below (length c.args.classes.now) c.loop-target.target-index c.args.list.now c.requires.below (omega arith))
 
 pub put_in_range-requires : goal.put_in_range-requires
 put_in_range-requires c = record {
