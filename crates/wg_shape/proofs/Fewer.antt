@@ -20,12 +20,7 @@ use Rattle.wg_shape.proofs.Reached.{reached_push, length_next}
 
 where_or : (s t : ℕ → Bool) (n k : ℕ) → length (numbers_where (λ y. s y || t y) n k) ≤ length (numbers_where s n k) + length (numbers_where t n k)
 where_or s t n zero = omega arith
-where_or s t n (suc k) =
-    let rest = where_or s t (n + 1) k in
-    elim (cases_Bool (s n)) [
-      | inl e ↦ elim (cases_Bool (t n)) [ inl d ↦ rw (e, d) (omega (arith, rest)) | inr d ↦ rw (e, d) (omega (arith, rest)) ]
-      | inr e ↦ elim (cases_Bool (t n)) [ inl d ↦ rw (e, d) (omega (arith, rest)) | inr d ↦ rw (e, d) (omega (arith, rest)) ]
-    ]
+where_or s t n (suc k) = grind (arith, where_or s t (n + 1) k)
 
 where_one : (x n k : ℕ) → length (numbers_where (λ y. eqb y x) n k) ≤ 1
 where_one x n zero = omega arith
@@ -64,15 +59,7 @@ reached_more g classes k m =
 
 -- a class more, one page more
 one_page : (c k d : ℕ) → cond (eqb k c) d 0 + cond (ltb c k) d 0 ≡ cond (ltb c (suc k)) d 0
-one_page c k d =
-    elim (cases_order c k) [
-      | inl same ↦
-          let a : eqb k c ≡ true = eq-eqb k c (sym same) in let b : ltb c k ≡ false = le-ltb c k (omega arith) in let e : ltb c (suc k) ≡ true = lt-ltb c (suc k) (omega arith) in rw (a, b, e) (omega arith)
-      | inr (inl less) ↦
-          let a : eqb k c ≡ false = ne_eqb k c (λ e. omega arith) in let b : ltb c k ≡ true = lt-ltb c k less in let e : ltb c (suc k) ≡ true = lt-ltb c (suc k) (omega arith) in rw (a, b, e) (omega arith)
-      | inr (inr more) ↦
-          let a : eqb k c ≡ false = ne_eqb k c (λ e. omega arith) in let b : ltb c k ≡ false = le-ltb c k (omega arith) in let e : ltb c (suc k) ≡ false = le-ltb c (suc k) (omega arith) in rw (a, b, e) (omega arith)
-    ]
+one_page c k d = grind (arith, cases_order, eq-eqb, ne_eqb, lt-ltb, le-ltb)
 
 class_more : (g : Digraph) (classes : List ℕ) (k m : ℕ) → length (reached g classes (numbers_where (of_class classes k) 0 m)) + arcs_below g classes k m ≡ arcs_below g classes (suc k) m
 unfolding arcs_below

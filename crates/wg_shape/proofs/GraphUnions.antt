@@ -60,14 +60,7 @@ union_more g h b after x u a = record {
 -- page x and those before it have no more arcs than all
 pub part_le : (g h : Digraph) (x n : ℕ) → x < n → sum_by (λ s. length s) (lists_of g h x) + length (both g h x) ≤ sum_by (λ s. length s) (lists_of g h n)
 part_le g h x zero lt = absurd (omega arith)
-part_le g h x (suc n) lt =
-    let e : n + 1 ≡ suc n = omega arith in
-    let more = sum_by-map-range_with_len_more (λ (s : List ℕ). length s) (both g h) 0 n n (omega arith) in
-    subst (λ m. sum_by (λ s. length s) (lists_of g h x) + length (both g h x) ≤ sum_by (λ s. length s) (lists_of g h m)) e
-    (elim (cases_eq x n) [
-      | inl same ↦ rw same (omega (arith, more))
-      | inr other ↦ omega (arith, more, part_le g h x n (omega arith))
-    ])
+part_le g h x (suc n) lt = grind (arith, sum_by-map-range_with_len_more (λ (s : List ℕ). length s) (both g h) 0 n n, part_le g h x n)
 
 same_parts : (g h : Digraph) → g.nodes ≡ h.nodes → g.lists ≡ h.lists → g ≡ h
 same_parts g h nodes lists = λ i. record { nodes = nodes i; lists = lists i }
@@ -110,14 +103,10 @@ pub one_union : (g h u w : Digraph) → IsUnion g h u → IsUnion g h w → u �
 one_union g h u w a b = same_graph u w a.proper b.proper (a.nodes ∙ sym b.nodes) (λ x v. a.arcs x v ∙ sym (b.arcs x v))
 
 or_same : (b : Bool) → (b || b) ≡ b
-or_same true = refl
-or_same false = refl
+or_same b = grind arith
 
 or_comm : (a b : Bool) → (a || b) ≡ (b || a)
-or_comm true true = refl
-or_comm true false = refl
-or_comm false true = refl
-or_comm false false = refl
+or_comm a b = grind arith
 
 pub with_itself : (g : Digraph) → IsGraph g → union_graph g g ≡ g
 with_itself g ok = one_union g g (union_graph g g) g (is_union g g ok ok) (record { nodes = omega arith; proper = ok; arcs = λ x v. sym (or_same (has_arc g x v)) })

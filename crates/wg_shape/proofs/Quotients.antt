@@ -20,7 +20,7 @@ use Rattle.wg_shape.specs.Quotient.{class_of, Leads, IsQuotient, members, reache
 
 pub in_append : (y : ℕ) (xs ys : List ℕ) → is_in y (xs ++ ys) ≡ (is_in y xs || is_in y ys)
 in_append y [] ys = refl
-in_append y (x ∷ xs) ys = elim (cases_Bool (eqb y x)) [ inl e ↦ rw e refl | inr e ↦ rw e (in_append y xs ys) ]
+in_append y (x ∷ xs) ys = grind (arith, in_append y xs ys)
 
 in_map_from : (f : ℕ → ℕ) (j : ℕ) (xs : List ℕ) → is_in j (map f xs) ≡ true → (v : ℕ) × (is_in v xs ≡ true) × (f v ≡ j)
 in_map_from f j [] h = absurd cc
@@ -84,18 +84,10 @@ members_to classes i u lt is =
 -- ---- arcs lead from page to page
 
 pub arc_from : (g : Digraph) → IsGraph g → (u v : ℕ) → has_arc g u v ≡ true → u < g.nodes
-arc_from g ok u v h =
-    elim (cases_lt u g.nodes) [
-      | inl lt ↦ lt
-      | inr past ↦ absurd (true≢false (sym h ∙ ap (is_in v) (get_or_past g.lists u [] (omega (arith, ok.counted)))))
-    ]
+arc_from g ok u v h = grind (arith, cases_lt, get_or_past, ok.counted)
 
 pub arc_to : (g : Digraph) → IsGraph g → (u v : ℕ) → has_arc g u v ≡ true → v < g.nodes
-arc_to g ok u v h =
-    elim (cases_lt v g.nodes) [
-      | inl lt ↦ lt
-      | inr past ↦ absurd (true≢false (sym h ∙ in_past g.nodes v (successors g u) (list_below g ok u (arc_from g ok u v h)) past))
-    ]
+arc_to g ok u v h = grind (arith, cases_lt, in_past, list_below, arc_from)
 
 -- ---- the quotient
 
@@ -142,10 +134,7 @@ module _ (g : Digraph) (ok : IsGraph g) (classes : List ℕ) (n : ℕ) (size : l
 -- ---- graphs with the same arcs
 
 pub same_bool : (a b : Bool) → (a ≡ true → b ≡ true) → (b ≡ true → a ≡ true) → a ≡ b
-same_bool a b f h = elim (cases_Bool a) [
-  | inl e ↦ e ∙ sym (f e)
-  | inr e ↦ elim (cases_Bool b) [ inl d ↦ absurd (true≢false (sym (h d) ∙ e)) | inr d ↦ e ∙ sym d ]
-]
+same_bool a b f h = grind arith
 
 pub same_graph : (g h : Digraph) → IsGraph g → IsGraph h → g.nodes ≡ h.nodes → ((u v : ℕ) → has_arc g u v ≡ has_arc h u v) → g ≡ h
 same_graph g h g_ok h_ok nodes same =

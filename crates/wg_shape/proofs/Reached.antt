@@ -46,8 +46,7 @@ module _ (g : Digraph) (classes : List ℕ) (k : ℕ) where
 -- ---- how long the lists are
 
 length_if : (f : ℕ → ℕ) (xs : List ℕ) (b : Bool) → length (cond b (map f xs) []) ≡ cond b (length xs) 0
-length_if f xs true = length-map xs f
-length_if f xs false = refl
+length_if f xs b = grind (arith, length-map)
 
 pub length_with : (g : Digraph) (classes : List ℕ) (k : ℕ) (seen : List ℕ) (i : ℕ) → length (with_arcs g classes k seen i) ≡ length (reached_below g classes k i) + cond (eqb i (class_of classes k)) (length seen) 0
 length_with g classes k seen i =
@@ -57,8 +56,7 @@ pub length_next : (g : Digraph) (classes : List ℕ) (k i : ℕ) → length (rea
 length_next g classes k i = ap length (all_seen g classes k i) ∙ length_with g classes k (successors g k) i
 
 cond_le : (b : Bool) (m n : ℕ) → m ≤ n → cond b m 0 ≤ cond b n 0
-cond_le true m n le = le
-cond_le false m n le = omega arith
+cond_le b m n le = grind arith
 
 length_grows : (g : Digraph) (classes : List ℕ) (k d i : ℕ) → length (reached_below g classes k i) ≤ length (reached_below g classes (k + d) i)
 length_grows g classes k zero i = omega (arith, ap (λ (m : ℕ). length (reached_below g classes m i)) (let e : k ≡ k + 0 = omega arith in e))

@@ -19,7 +19,7 @@ use Rattle.wg_shape.proofs.Quotients.{arc_to, list_of, reached_from, same_bool}
 -- ---- members
 
 in_behind : (y x : ℕ) (xs : List ℕ) → is_in y xs ≡ true → is_in y (x ∷ xs) ≡ true
-in_behind y x xs h = elim (cases_Bool (eqb y x)) [ inl e ↦ rw e refl | inr e ↦ rw e h ]
+in_behind y x xs h = grind arith
 
 at_in : (xs : List ℕ) (y k : ℕ) → k < length xs → get_or xs k y ≡ y → is_in y xs ≡ true
 at_in [] y k lt is = absurd (omega arith)

@@ -8,7 +8,7 @@ use Rattle.wg_graph.specs.Unions.{with_number, union_of}
 use Rattle.wg_graph.proofs.NumberByNumber.{union_ascends, union_first, union_second}
 
 with_same : (x : ℕ) (ys : List ℕ) → with_number x (x ∷ ys) ≡ x ∷ ys
-with_same x ys = rw (le-ltb x x (omega arith), eq-eqb x x refl) refl
+with_same x ys = grind (arith, le-ltb, eq-eqb)
 
 pub union_both : (x : ℕ) (xs ys : List ℕ) → Ascends (suc x) xs → union_of (x ∷ xs) (x ∷ ys) ≡ x ∷ union_of xs ys
 union_both x xs ys h = ap (with_number x) (union_second x xs ys h) ∙ with_same x (union_of xs ys)
@@ -56,38 +56,15 @@ above_none next list x is = let P : Option ℕ → Type 0 = λ (o : Option ℕ).
 
 in_with : (y x : ℕ) (ys : List ℕ) → is_in y (with_number x ys) ≡ (eqb y x || is_in y ys)
 in_with y x [] = refl
-in_with y x (z ∷ ys) =
-    elim (cases_order x z) [
-      | inl same ↦ elim (cases_Bool (eqb y z)) [
-        | inl e ↦ rw (same, le-ltb z z (omega arith), eq-eqb z z refl, e) refl
-        | inr e ↦ rw (same, le-ltb z z (omega arith), eq-eqb z z refl, e) refl
-      ]
-      | inr (inl less) ↦ rw (lt-ltb x z less) refl
-      | inr (inr more) ↦
-          let rest = in_with y x ys in
-          elim (cases_Bool (eqb y z)) [
-            | inl e ↦ elim (cases_Bool (eqb y x)) [
-              | inl d ↦ rw (le-ltb x z (omega arith), ne_eqb x z (λ f. omega arith), e, d) refl
-              | inr d ↦ rw (le-ltb x z (omega arith), ne_eqb x z (λ f. omega arith), e, d) refl
-            ]
-            | inr e ↦ rw (le-ltb x z (omega arith), ne_eqb x z (λ f. omega arith), e) rest
-          ]
-    ]
+in_with y x (z ∷ ys) = grind (arith, cases_order, lt-ltb, le-ltb, ne_eqb, eq-eqb, in_with y x ys)
 
 pub in_union : (y : ℕ) (xs ys : List ℕ) → is_in y (union_of xs ys) ≡ (is_in y xs || is_in y ys)
 in_union y [] ys = refl
-in_union y (x ∷ xs) ys =
-    in_with y x (union_of xs ys) ∙ ap (λ (b : Bool). eqb y x || b) (in_union y xs ys)
-    ∙ elim (cases_Bool (eqb y x)) [ inl e ↦ rw e refl | inr e ↦ rw e refl ]
+in_union y (x ∷ xs) ys = grind (arith, in_with, in_union y xs ys)
 
 with_below : (m x : ℕ) (ys : List ℕ) → x < m → Below m ys → Below m (with_number x ys)
 with_below m x [] lt low = (lt, tt)
-with_below m x (z ∷ ys) lt low =
-    elim (cases_order x z) [
-      | inl same ↦ rw (same, le-ltb z z (omega arith), eq-eqb z z refl) low
-      | inr (inl less) ↦ rw (lt-ltb x z less) (lt, (low.0, low.1))
-      | inr (inr more) ↦ let rest = with_below m x ys lt low.1 in rw (le-ltb x z (omega arith), ne_eqb x z (λ f. omega arith)) (low.0, rest)
-    ]
+with_below m x (z ∷ ys) lt low = grind (arith, cases_order, lt-ltb, le-ltb, ne_eqb, eq-eqb, with_below m x ys lt low.1)
 
 pub union_below : (m : ℕ) (xs ys : List ℕ) → Below m xs → Below m ys → Below m (union_of xs ys)
 union_below m [] ys h k = k
