@@ -80,11 +80,7 @@ module _ {X : Type 0} {none : X} (n : ℕ) (whole b c : ℕ → List X) (v : ℕ
   place_fits = omega (arith, h.reached v lt, h.room, longer b c v x m, fits v, start_le whole (suc v) n (omega arith))
 
   reached_more : (w : ℕ) → w < n → get_or (set ends v (get_or ends v 0 + 1)) w 0 ≡ start whole w + length (c w)
-  reached_more w w_lt =
-      elim (cases_eq w v) [
-        | inl same ↦ rw same (get_or-set_same ends v (get_or ends v 0 + 1) 0 (omega (arith, h.pages)) ∙ omega (arith, h.reached v lt, longer b c v x m))
-        | inr other ↦ get_or-set_other ends v w (get_or ends v 0 + 1) 0 other ∙ h.reached w w_lt ∙ ap (λ (l : List X). start whole w + length l) (sym (m.others w other))
-      ]
+  reached_more w w_lt = grind (arith, get_or-set_same, get_or-set_other, longer)
 
   pub place_more : AreFilled none n whole c (set ends v (get_or ends v 0 + 1)) (set all (get_or ends v 0) x)
   place_more =

@@ -27,11 +27,7 @@ none_from g ok u v past = ap (is_in v) (get_or_past g.lists u [] (omega (arith, 
 
 -- no arc leads to what is no page
 none_to : (g : Digraph) → IsGraph g → (u v : ℕ) → g.nodes ≤ v → has_arc g u v ≡ false
-none_to g ok u v past =
-    elim (cases_lt u g.nodes) [
-      | inl lt ↦ in_past g.nodes v (successors g u) (list_below g ok u lt) past
-      | inr le ↦ none_from g ok u v le
-    ]
+none_to g ok u v past = grind (arith, cases_lt, in_past, list_below, none_from)
 
 -- the list of a page has the targets of its arcs
 pub list_is : (g : Digraph) → IsGraph g → (u : ℕ) → u < g.nodes → successors g u ≡ numbers_where (λ v. has_arc g u v) 0 g.nodes

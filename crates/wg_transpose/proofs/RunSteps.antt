@@ -53,11 +53,7 @@ module _ (b c : ℕ → List ℕ) (v u : ℕ) (m : OneMore b c v u) where
   -- where the last runs end
   module _ (n : ℕ) (lt : v < n) (reach : List ℕ) (places : length reach ≡ n) (reached : (w : ℕ) → w < n → get_or reach w 0 ≡ last_to (runs_of b w)) where
     pub reached_now : (w : ℕ) → w < n → get_or (set reach v (u + 1)) w 0 ≡ last_to (runs_of c w)
-    reached_now w w_lt =
-        elim (cases_eq w v) [
-          | inl same ↦ rw same (get_or-set_same reach v (u + 1) 0 (omega arith) ∙ sym now_last)
-          | inr other ↦ get_or-set_other reach v w (u + 1) 0 other ∙ reached w w_lt ∙ ap last_to (sym (others_stay w other))
-        ]
+    reached_now w w_lt = grind (arith, get_or-set_same, get_or-set_other, now_last, others_stay)
 
   -- ---- counting
 
@@ -171,11 +167,7 @@ module _ (n : ℕ) (whole b c : ℕ → List ℕ) (v u : ℕ) (next : IsNext run
     longer_within = place_within no_run n (runs_of whole) (runs_of b) (runs_of c) v next.list next.fits (others_stay b c v u next.more) l x inside here_longer kept_longer runs (end - 1) h.filled.room is_last
 
     ended_longer : (w : ℕ) → w < n → get_or ends w 0 ≡ start (runs_of whole) w + length (runs_of c w)
-    ended_longer w w_lt =
-        elim (cases_eq w v) [
-          | inl here ↦ rw here (omega (arith, h.filled.reached v next.list, as_many))
-          | inr away ↦ h.filled.reached w w_lt ∙ ap (λ (r : List PageRun). start (runs_of whole) w + length r) (sym (others_stay b c v u next.more w away))
-        ]
+    ended_longer w w_lt = grind (arith, h.filled.reached, as_many, others_stay b c v u next.more)
 
     pub begun_longer : AreBegun runs_in run_mark no_run n whole c ends (set reach v (u + 1)) (set runs (end - 1) (record { from = (get_or runs (end - 1) no_run).from; to = u + 1 }))
     begun_longer = record {

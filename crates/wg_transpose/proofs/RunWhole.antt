@@ -1,7 +1,6 @@
 -- How many runs and arcs there are, and the outdegrees.
-use Rattle.std.proofs.Common.{◌≡◌, ℕ, ◌+◌, ◌<◌, ◌≤◌, List, [], length, take, get_or, set, ap, ◌∙◌, arith, inl, inr, get_or-set_same, get_or-set_other}
+use Rattle.std.proofs.Common.{◌≡◌, ℕ, ◌+◌, ◌<◌, ◌≤◌, List, [], length, take, get_or, set, ap, arith, get_or-set_same, get_or-set_other}
 use Rattle.std.specs.List.{sum_by}
-use Rattle.std.proofs.lemmas.Bool.{cases_eq}
 use Rattle.std.proofs.lemmas.List.Sums.{sum_by_more}
 use Rattle.wg_graph.specs.Digraph.{Digraph, IsGraph, arc_count, successors, outdegree}
 use Rattle.wg_graph.specs.Arcs.{has_arc}
@@ -26,11 +25,7 @@ module _ (g : Digraph) (ok : IsGraph g) (page : ℕ) (lt : page < g.nodes) (list
 
   pub degrees_more : (degrees : List ℕ) → length degrees ≡ g.nodes → ((u : ℕ) → u < page → get_or degrees u 0 ≡ outdegree g u)
       → (u : ℕ) → u < page + 1 → get_or (set degrees page (length list)) u 0 ≡ outdegree g u
-  degrees_more degrees pages each u below =
-      elim (cases_eq u page) [
-        | inl same ↦ rw same (get_or-set_same degrees page (length list) 0 (omega arith) ∙ ap length is)
-        | inr other ↦ get_or-set_other degrees page u (length list) 0 other ∙ each u (omega arith)
-      ]
+  degrees_more degrees pages each u below = grind (arith, get_or-set_same, get_or-set_other)
 
   pub arcs_more : sum_by (λ s. length s) (take page g.lists) + length list ≡ sum_by (λ s. length s) (take (page + 1) g.lists)
   arcs_more = omega (arith, sum_by_more (λ (s : List ℕ). length s) g.lists page [] (omega (arith, ok.counted)), ap length is)

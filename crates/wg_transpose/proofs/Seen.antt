@@ -31,23 +31,19 @@ where_few t (suc k) =
 -- ---- members of the front of a list
 
 pub in_push : (y x : ℕ) (xs : List ℕ) → is_in y (xs ++ x ∷ []) ≡ (is_in y xs || eqb y x)
-in_push y x [] = elim (cases_Bool (eqb y x)) [ inl e ↦ rw e refl | inr e ↦ rw e refl ]
-in_push y x (z ∷ xs) = elim (cases_Bool (eqb y z)) [ inl e ↦ rw e refl | inr e ↦ rw e (in_push y x xs) ]
+in_push y x [] = grind arith
+in_push y x (z ∷ xs) = grind (arith, in_push y x xs)
 
 pub in_push_same : (y : ℕ) (xs : List ℕ) → is_in y (xs ++ y ∷ []) ≡ true
-in_push_same y xs = in_push y y xs ∙ elim (cases_Bool (is_in y xs)) [ inl e ↦ rw e refl | inr e ↦ rw (e, eq-eqb y y refl) refl ]
+in_push_same y xs = grind (arith, in_push, eq-eqb)
 
 pub in_push_other : (y x : ℕ) (xs : List ℕ) → y ≢ x → is_in y (xs ++ x ∷ []) ≡ is_in y xs
-in_push_other y x xs other = in_push y x xs ∙ elim (cases_Bool (is_in y xs)) [ inl e ↦ rw e refl | inr e ↦ rw (e, ne_eqb y x other) refl ]
+in_push_other y x xs other = grind (arith, in_push, ne_eqb)
 
 pub in_take : (y j : ℕ) (xs : List ℕ) → is_in y (take j xs) ≡ true → is_in y xs ≡ true
 in_take y zero xs h = absurd cc
 in_take y (suc j) [] h = h
-in_take y (suc j) (x ∷ xs) h =
-    elim (cases_Bool (eqb y x)) [
-      | inl e ↦ rw e refl
-      | inr e ↦ let rest = rw e at h in rw e (in_take y j xs rest)
-    ]
+in_take y (suc j) (x ∷ xs) h = grind (arith, in_take y j xs)
 
 member_from : (n j : ℕ) (xs : List ℕ) → Ascends n xs → j < length xs → n ≤ get_or xs j 0
 member_from n j [] up lt = absurd (omega arith)

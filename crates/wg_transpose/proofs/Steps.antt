@@ -24,10 +24,7 @@ pub record HaveOneMore (list old new : List ℕ) : Type 0 where
 -- the next page of the list has none yet
 pub not_counted : (list : List ℕ) (j : ℕ) (old new : List ℕ) → Ascends 0 list → j < length list → get_or list j 0 < length old → HaveOneMore (take j list) old new
     → get_or new (get_or list j 0) 0 ≡ get_or old (get_or list j 0) 0
-not_counted list j old new up lt below h =
-    let e = not_before 0 j list up lt in
-    let here = rw e at (h.each (get_or list j 0) below) in
-    omega (arith, here)
+not_counted list j old new up lt below h = grind (arith, not_before, h.each)
 
 pub count_step : (list : List ℕ) (j : ℕ) (old new : List ℕ) → Ascends 0 list → j < length list → get_or list j 0 < length old → length new ≡ length old → HaveOneMore (take j list) old new
     → HaveOneMore (take (j + 1) list) old (set new (get_or list j 0) (get_or new (get_or list j 0) 0 + 1))

@@ -1,5 +1,5 @@
 -- As many arcs lead to the pages as leave them.
-use Rattle.std.proofs.Common.{◌≡◌, ℕ, zero, suc, ◌+◌, ◌≤◌, Bool, cond, List, [], ◌∷◌, length, take, map, true, false, refl, sym, ap, subst, ◌∙◌, arith, inl, inr, length-append}
+use Rattle.std.proofs.Common.{◌≡◌, ℕ, zero, suc, ◌+◌, ◌≤◌, Bool, cond, List, [], ◌∷◌, length, take, map, refl, sym, ap, subst, ◌∙◌, arith, inl, inr, length-append}
 use Rattle.std.specs.List.{sum_by, range_with_len}
 use Rattle.std.specs.Prelude.{sum}
 use Rattle.std.proofs.lemmas.Bool.{cases_lt}
@@ -23,7 +23,7 @@ start_of_none zero = refl
 start_of_none (suc v) = omega (arith, start_of_none v)
 
 pub start_le : {X : Type 0} (lists : ℕ → List X) (v w : ℕ) → v ≤ w → start lists v ≤ start lists w
-start_le lists v zero le = let e : v ≡ 0 = omega arith in rw e (omega arith)
+start_le lists v zero le = grind arith
 start_le lists v (suc w) le =
     elim (cases_lt w v) [
       | inl last ↦ let e : v ≡ suc w = omega arith in rw e (omega arith)
@@ -36,8 +36,7 @@ start_few lists others few zero = omega arith
 start_few lists others few (suc n) = omega (arith, start_few lists others few n, few n)
 
 length-cond : (b : Bool) (k : ℕ) → length (cond b (k ∷ []) []) ≡ one_if b
-length-cond true k = refl
-length-cond false k = refl
+length-cond b k = grind arith
 
 -- how long a list is with one number more, if there is one
 pub count_if : (t : ℕ → Bool) (k : ℕ) → length (numbers_where t 0 (suc k)) ≡ length (numbers_where t 0 k) + one_if (t k)

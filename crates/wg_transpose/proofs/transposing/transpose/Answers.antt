@@ -1,6 +1,5 @@
-use Rattle.std.proofs.Common.{◌≡◌, ◌∙◌}
+use Rattle.std.proofs.Common.{◌∙◌}
 use Rattle.std.proofs.lemmas.List.{with_items_is}
-use Rattle.wg_transpose.specs.Transposed.{transposed}
 use Rattle.wg_transpose.proofs.Reversed.{are_reversed, is_proper}
 use Rattle.wg_transpose.proofs.Totals.{as_many}
 use Rattle.wg_transpose.proofs.transposing.transpose.Goals as goal
