@@ -1,6 +1,6 @@
 -- An ASCIIGraph text that is read line by line, of which other lines may come later.
-use Rattle.std.proofs.Common.{false, ◌==◌, ◌≡◌, ◌≢◌, ℕ, ◌+◌, ◌-◌, ◌<◌, ◌≤◌, List, [], ◌∷◌, ◌++◌, length, replicate, Err, refl, sym, ap, subst, ◌∙◌, arith, inl, inr, append-nil}
-use Rattle.std.proofs.lemmas.Bool.{cases_lt, eqb-false}
+use Rattle.std.proofs.Common.{false, ◌==◌, ◌≡◌, ◌≢◌, ℕ, ◌+◌, ◌-◌, ◌<◌, ◌≤◌, List, [], ◌∷◌, ◌++◌, length, replicate, Err, refl, sym, ap, subst, ◌∙◌, arith, append-nil}
+use Rattle.std.proofs.lemmas.Bool.{eqb-false}
 use Rattle.std.proofs.lemmas.List.{length_push}
 use Rattle.std.proofs.lemmas.List.Sums.{sum_by_push}
 use Rattle.wg_num.specs.Lines.{lines_of}
@@ -46,12 +46,7 @@ pub page_left : (all next lists : List (List ℕ)) (s : PageLinesRead) → s.lin
 page_left all next lists s le h = omega (arith, h.blank.counted)
 
 pub all_listed : (all next lists : List (List ℕ)) (s : PageLinesRead) → s.nodes < s.line → IsUpTo all next lists s → length lists ≡ s.nodes
-all_listed all next lists s lt h =
-    let few : length lists ≤ s.nodes = h.pages.prefix.begun in
-    elim (cases_lt (length lists) s.nodes) [
-      | inl less ↦ absurd (let w = h.waits less in omega (arith, w.1))
-      | inr from ↦ omega arith
-    ]
+all_listed all next lists s lt h = grind arith
 
 first_of : (all next lists : List (List ℕ)) (s : PageLinesRead) (e : AsciiError) (h : IsUpTo all next lists s) → IsFirstAfter s.nodes h.lines e → IsFirst all e
 first_of all next lists s (error.Line l k) h (x, at, fault, before) =
@@ -135,8 +130,7 @@ all_read all lists s over h =
     stands all h.first h.lines h.behind (graph_of s lists) h.split h.tells h.pages (all_listed all [] lists s over h) (blank_done h.behind [] (length lists + 2) (s.line + 1) h.blank refl)
 
 pub read_of_first : (bytes : List ℕ) (e : AsciiError) → IsFirst (lines_of bytes ++ []) e → IsRead bytes (Err e)
-read_of_first bytes (error.Line l k) h = subst (λ (ls : List (List ℕ)). IsFirstFault ls l k) (append-nil (lines_of bytes)) h
-read_of_first bytes error.Memory h = tt
+read_of_first bytes e h = grind (arith, append-nil)
 
 -- the graph that is made of these lists
 pub stands_alone : (bytes : List ℕ) (lists : List (List ℕ)) (s : PageLinesRead) (g : Digraph) (n : ℕ) → g.nodes ≡ s.nodes → n ≡ s.nodes → g.lists ≡ padded n lists → s.nodes < s.line → IsUpTo (lines_of bytes ++ []) [] lists s → StandsFor (lines_of bytes) g

@@ -1,7 +1,7 @@
 -- The lists of the pages, read line by line.
 use Rattle.std.proofs.Common.{◌≡◌, ℕ, suc, ◌+◌, ◌<◌, ◌≤◌, List, [], ◌∷◌, ◌++◌, map, length, take, drop, get_or, decimal, Option, Some, None, refl, sym, ap, subst, ◌∙◌, arith, inl, inr, length-drop}
 use Rattle.std.specs.List.{All, sum_by}
-use Rattle.std.proofs.lemmas.Bool.{cases_lt, lt-leb, le-leb}
+use Rattle.std.proofs.lemmas.Bool.{cases_lt, lt-leb}
 use Rattle.std.proofs.lemmas.List.{get_or-drop, drop_more, get_or_append_left, get_or_at, get_or-take, take_more, length-take-le, length_push, length-map}
 use Rattle.std.proofs.lemmas.List.Elements.{All-get_or, All-append, All-cons}
 use Rattle.std.proofs.lemmas.List.Sums.{sum_by-cons, sum_by_push, sum_by-take-le}
@@ -123,16 +123,7 @@ fault_of_line n arcs [] = Some kind.Missing
 fault_of_line n arcs (text ∷ after) = fault_of_words n 0 arcs (words_of text)
 
 next_fault : (lines rest : List (List ℕ)) (g : Digraph) → HasLists lines rest g → length g.lists < g.nodes → fault_after g.nodes lines (length g.lists) ≡ fault_of_line g.nodes (arc_count g) rest
-next_fault lines [] g h lt =
-    let k : ℕ = length g.lists in
-    let past : length lines ≤ k = none_left lines k h.split in
-    rw (lt-leb g.nodes k lt, le-leb (length lines) k past) refl
-next_fault lines (text ∷ after) g h lt =
-    let k : ℕ = length g.lists in
-    let next : IsNext lines after k text = next_is lines after k text h.split in
-    let front : words_in (take k lines) ≡ arc_count g = listed_words lines g.lists h.there h.words in
-    let line = next.line in
-    rw (lt-leb g.nodes k lt, lt-leb (length lines) k next.there, front, line) refl
+next_fault lines rest g h h2 = grind (arith, none_left, next_is, listed_words)
 
 pub lists_refused : (lines rest : List (List ℕ)) (g : Digraph) (line : ℕ) (e : AsciiError) → HasLists lines rest g → length g.lists < g.nodes → line ≡ length g.lists + 2 → IsRefused line (fault_of_line g.nodes (arc_count g) rest) e → IsFirstAfter g.nodes lines e
 lists_refused lines rest g line (error.Line l k) h lt at r = (length g.lists, r.0 ∙ at, next_fault lines rest g h lt ∙ r.1, lists_sound lines rest g h)

@@ -1,6 +1,6 @@
 -- A text stands for a graph or has a first fault.
 use Rattle.std.proofs.Common.{◌≡◌, ◌≢◌, ℕ, suc, ◌+◌, ◌≤◌, ◌⊎◌, List, [], ◌∷◌, ◌++◌, map, length, decimal, Option, Some, None, unwrap_or, Result, Ok, Err, refl, sym, ap, subst, arith, inl, inr}
-use Rattle.std.proofs.lemmas.Bool.{cases_lt, lt-leb, le-leb, lt-ltb, le-ltb}
+use Rattle.std.proofs.lemmas.Bool.{cases_lt, lt-ltb}
 use Rattle.std.proofs.lemmas.Option.{none-some}
 use Rattle.wg_params.specs.declared.limits.TheConstants.{MOST_ARCS, MOST_PAGES}
 use Rattle.wg_num.specs.Decimal.{number_of}
@@ -41,18 +41,7 @@ tells (word ∷ []) fine = tells_one word (number_of word) refl fine
 
 taken : (n least arcs : ℕ) (word : List ℕ) (words : List (List ℕ)) (o : Option ℕ) → number_of word ≡ o → or_else (refusal_of n least arcs o) (fault_of_words n (unwrap_or o 0 + 1) (arcs + 1) words) ≡ None
     → (v : ℕ) × IsNumber n least arcs word v × (fault_of_words n (v + 1) (arcs + 1) words ≡ None)
-taken n least arcs word words None e fine = absurd (none-some kind.Shape (sym fine))
-taken n least arcs word words (Some v) e fine =
-    elim (cases_lt v n) [
-      | inr le ↦ absurd (none-some kind.Range (sym (rw (le-leb n v le) at fine)))
-      | inl page ↦ elim (cases_lt v least) [
-        | inl late ↦ absurd (none-some kind.Order (sym (rw (lt-leb n v page, lt-ltb v least late) at fine)))
-        | inr low ↦ elim (cases_lt arcs MOST_ARCS) [
-          | inr full ↦ absurd (none-some kind.TooMany (sym (rw (lt-leb n v page, le-ltb v least low, le-ltb arcs MOST_ARCS full) at fine)))
-          | inl room ↦ (v, record { text = (decimal-number_of word v e).1; low = low; page = page; room = room }, rw (lt-leb n v page, le-ltb v least low, lt-ltb arcs MOST_ARCS room) at fine)
-        ]
-      ]
-    ]
+taken n least arcs word words o h h2 = grind (arith, decimal-number_of)
 
 numbers : (n least arcs : ℕ) (words : List (List ℕ)) → arcs ≤ MOST_ARCS → fault_of_words n least arcs words ≡ None
     → (list : List ℕ) × (words ≡ map decimal list) × Ascends least list × Below n list × (arcs + length list ≤ MOST_ARCS)

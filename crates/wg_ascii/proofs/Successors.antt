@@ -3,7 +3,6 @@ use Rattle.std.proofs.Common.{◌≡◌, ℕ, suc, ◌+◌, ◌<◌, ◌≤◌, 
 use Rattle.std.proofs.lemmas.Bool.{lt-leb, lt-ltb, le-ltb}
 use Rattle.std.proofs.lemmas.List.{map-append, length_push}
 use Rattle.wg_params.specs.declared.limits.TheConstants.{MOST_ARCS}
-use Rattle.wg_num.specs.Decimal.{number_of}
 use Rattle.wg_num.proofs.Numbers.{number_of-decimal}
 use Rattle.wg_graph.specs.Ascending.{Ascends, Below}
 use Rattle.wg_graph.proofs.Sets.{ascends_push, below_push, below_more}
@@ -17,11 +16,7 @@ not_refused n least arcs v page low room = rw (lt-leb n v page, le-ltb v least l
 
 -- a number that may come next leaves the words after it
 pub past_word : (n least arcs : ℕ) (word : List ℕ) (words : List (List ℕ)) (v : ℕ) → n ≤ 2 ^ 64 → IsNumber n least arcs word v → fault_of_words n least arcs (word ∷ words) ≡ fault_of_words n (v + 1) (arcs + 1) words
-past_word n least arcs word words v small is =
-    let page : v < n = is.page in
-    let read : number_of word ≡ Some v = ap number_of is.text ∙ number_of-decimal v (omega arith) in
-    let fine : refusal_of n least arcs (Some v) ≡ None = not_refused n least arcs v is.page is.low is.room in
-    rw (read, fine) refl
+past_word n least arcs word words v small is = grind (arith, number_of-decimal, not_refused)
 
 -- ---- all words
 

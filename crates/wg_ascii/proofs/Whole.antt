@@ -1,6 +1,6 @@
 -- The whole text, of the first line and what comes after it.
 use Rattle.std.proofs.Common.{◌≡◌, ◌≢◌, ℕ, zero, suc, ◌+◌, ◌-◌, ◌<◌, ◌≤◌, false, eqb, List, [], ◌∷◌, map, length, drop, get_or, decimal, Option, Some, None, IsSome, IsNone, MatchOption, Bor, Err, refl, sym, ap, subst, ◌∙◌, arith, inl, inr}
-use Rattle.std.proofs.lemmas.Bool.{cases_lt, false≢true, le-leb, le-ltb, ne_eqb}
+use Rattle.std.proofs.lemmas.Bool.{cases_lt, le-leb, ne_eqb}
 use Rattle.std.proofs.lemmas.List.{get_or-drop, get_or_past}
 use Rattle.wg_params.specs.declared.limits.TheConstants.{MOST_PAGES}
 use Rattle.wg_num.specs.Decimal.{number_of}
@@ -23,16 +23,10 @@ told : (n : ℕ) → n ≤ MOST_PAGES → number_of (decimal n) ≡ Some n
 told n small = number_of-decimal n (omega arith)
 
 pub told_fine : (words : List (List ℕ)) (n : ℕ) → Tells words n → fault_of_first words ≡ None
-told_fine words n h =
-    let is = h.is in
-    let read = told n h.small in
-    rw (is, read, le-ltb MOST_PAGES n h.small) refl
+told_fine words n h = grind (arith, told)
 
 pub told_pages : (words : List (List ℕ)) (n : ℕ) → Tells words n → pages_in words ≡ n
-told_pages words n h =
-    let is = h.is in
-    let read = told n h.small in
-    rw (is, read) refl
+told_pages words n h = grind (arith, told)
 
 -- ---- a fault
 
@@ -73,12 +67,10 @@ behind lines rest n x split = sym (get_or-drop n lines x []) ∙ ap (λ (ls : Li
 
 -- what the search for a line's first word finds
 pub is_some_word : (r : Option (Bor (List ℕ) × Bor (List ℕ))) (words : List (List ℕ)) → MatchOption r (words ≡ []) (λ w. words ≡ w.0.now ∷ words_of w.1.now) → IsSome r → words ≢ []
-is_some_word (Some w) words is some = λ none. absurd (omega (arith, ap length (sym is ∙ none)))
-is_some_word None words is some = absurd (false≢true some)
+is_some_word r words h h2 = grind arith
 
 pub is_no_word : (r : Option (Bor (List ℕ) × Bor (List ℕ))) (words : List (List ℕ)) → MatchOption r (words ≡ []) (λ w. words ≡ w.0.now ∷ words_of w.1.now) → IsNone r → words ≡ []
-is_no_word None words is none = is
-is_no_word (Some w) words is none = absurd (false≢true (sym none))
+is_no_word r words h h2 = grind arith
 
 pub blank_none : (lines : List (List ℕ)) (first : ℕ) → BlankSoFar lines lines first first
 blank_none lines first = record { done = 0; counted = omega arith; split = refl; none = λ x lt. absurd (omega arith) }
@@ -97,11 +89,7 @@ blank_more lines rest after text first line h cut blank =
     }
 
 pub blank_done : (lines rest : List (List ℕ)) (first line : ℕ) → BlankSoFar lines rest first line → rest ≡ [] → AreBlank lines
-blank_done lines rest first line h end x =
-    elim (cases_lt x h.done) [
-      | inl low ↦ h.none x low
-      | inr from ↦ (let past = none_left lines h.done (h.split ∙ end) in ap words_of (get_or_past lines x [] (omega arith)) ∙ empty_line)
-    ]
+blank_done lines rest first line h end x = grind (arith, none_left, get_or_past, empty_line)
 
 pub blank_refused : (lines rest after : List (List ℕ)) (text : List ℕ) (first line : ℕ) → BlankSoFar lines rest first line → rest ≡ text ∷ after → words_of text ≢ [] → IsFirstExtra first lines (error.Line line kind.Extra)
 blank_refused lines rest after text first line h cut some =

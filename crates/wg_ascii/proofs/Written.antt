@@ -1,5 +1,5 @@
 -- Lines in the form in which they are written, read number by number.
-use Rattle.std.proofs.Common.{◌≡◌, ℕ, ◌+◌, ◌-◌, ◌<◌, ◌≤◌, ◌^◌, false, List, [], ◌∷◌, ◌++◌, length, take, drop, decimal, Result, Ok, Err, refl, sym, ap, subst, ◌∙◌, append_assoc, append-nil}
+use Rattle.std.proofs.Common.{arith, ◌≡◌, ℕ, ◌+◌, ◌-◌, ◌<◌, ◌≤◌, ◌^◌, false, List, [], ◌∷◌, ◌++◌, length, take, drop, decimal, Result, Ok, Err, refl, sym, ap, subst, ◌∙◌, append_assoc, append-nil}
 use Rattle.std.specs.Result.{OnOk, is_err}
 use Rattle.std.proofs.lemmas.List.{take_rest, take-append-drop}
 use Rattle.wg_params.specs.declared.limits.TheConstants.{MOST_ARCS}
@@ -29,8 +29,7 @@ begun_words (w ∷ list) v = append_assoc (decimal w) (32 ∷ begun list) (decim
 
 -- a number at the front, and what follows it
 pub parted : (rest after : List ℕ) (end v byte : ℕ) → take end rest ≡ decimal v → take (length rest - end) (drop end rest) ≡ byte ∷ after → rest ≡ decimal v ++ byte ∷ after
-parted rest after end v byte front back =
-    sym (take-append-drop end rest) ∙ ap (λ (l : List ℕ). l ++ drop end rest) front ∙ ap (λ (l : List ℕ). decimal v ++ l) (sym (take_rest rest end) ∙ back)
+parted rest after end v byte front back = grind (arith, take_rest, take-append-drop)
 
 -- numbers in order are read, a space after each, and this comes after them
 pub record WrittenSoFar (n arcs : ℕ) (all rest list : List ℕ) (least count : ℕ) : Type 0 where
