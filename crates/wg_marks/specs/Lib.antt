@@ -1,0 +1,4 @@
+pub mod Masks
+pub mod Marked
+pub mod Spans
+pub mod Common
