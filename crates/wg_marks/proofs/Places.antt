@@ -46,6 +46,9 @@ unfolding places
 places-none zero b = refl
 places-none (suc k) b = places-none k (b + 1)
 
+pub none-left : (x : ℕ) → x ≡ 0 → places 64 0 x ≡ []
+none-left x is = ap (places 64 0) is ∙ places-none 64 0
+
 -- the word has k bits, and may be looked at as one of more
 pub places-more : (k j b x : ℕ) → x < 2 ^ k → places (k + j) b x ≡ places k b x
 unfolding places

@@ -1,5 +1,5 @@
 //! The copy blocks, one by one.
-ghost use Rattle.std.specs.Prelude.{◌≡◌, ◌≤◌, ◌<◌, ◌++◌, true, length, option_to_list};
+ghost use Rattle.std.specs.Prelude.{◌≡◌, ◌≤◌, ◌<◌, ◌++◌, true, length, option_to_list, None, []};
 ghost use Rattle.wg_blocks.specs.Canonical.{mask_runs, without_last};
 ghost use Rattle.wg_marks.specs.Masks.{mask_bits};
 
@@ -47,7 +47,8 @@ impl BlocksLeft {
     /// The next block, by its own length.
     #[inline(always)]
     pub fn next(&mut self) -> Option<u64>
-        ensures { self.old ≡ option_to_list result ++ self.new }
+        ensures split { self.old ≡ option_to_list result ++ self.new }
+        ensures end { result ≡ None → self.old ≡ [] }
     {
         if self.left == 0 {
             return None;

@@ -1,5 +1,5 @@
 //! The numbers that are not copied, one by one.
-ghost use Rattle.std.specs.Prelude.{◌≡◌, ◌^◌, ◌<◌, ◌≤◌, ℕ, List, not, false, ◌++◌, filter, length, option_to_list};
+ghost use Rattle.std.specs.Prelude.{◌≡◌, ◌^◌, ◌<◌, ◌≤◌, ℕ, List, not, false, ◌++◌, filter, length, option_to_list, None, []};
 ghost use Rattle.wg_graph.specs.Ascending.{Ascends};
 ghost use Rattle.wg_graph.specs.Numbers.{is_in};
 ghost use Rattle.wg_blocks.specs.Canonical.{mask_of};
@@ -70,7 +70,8 @@ impl<'a> Extras<'a> {
     /// The next of them.
     #[inline(always)]
     pub fn next(&mut self) -> Option<u64>
-        ensures { self.old ≡ option_to_list result ++ self.new }
+        ensures split { self.old ≡ option_to_list result ++ self.new }
+        ensures end { result ≡ None → self.old ≡ [] }
     {
         if self.left == 0 {
             return None;
