@@ -55,6 +55,13 @@ blocks_begin p t reference referenced list is counts code none first =
     let all : t.count + length (blocks_from t.run (mask_of list referenced)) ≡ length (without_last (mask_runs true (mask_of list referenced))) = omega (arith, none, ap length first) in
     (λ i. cond (is i) (written field.BlockCount (counts i) (all i) ∷ map (written field.Block (code i)) (stored_after (none i) (first i))) [])
 
+pub blocks_start : (p : Parameters) (t : BlockTally) (reference : ℕ) (referenced list : List ℕ) → t.is_written ≡ ltb 0 reference → t.counts ≡ p.block_counts → t.code ≡ p.blocks → t.count ≡ 0
+    → dues_of_blocks t (canonical_blocks list referenced) ≡ copy_fields p reference referenced list
+blocks_start p t reference referenced list is counts code none =
+    let blocks : List ℕ = canonical_blocks list referenced in
+    let all : t.count + length blocks ≡ length blocks = omega (arith, none) in
+    (λ i. cond (is i) (written field.BlockCount (counts i) (all i) ∷ map (written field.Block (code i)) (stored_after (none i) blocks)) [])
+
 -- ---- what is not copied
 
 pub range_next : (l n i : ℕ) → i < n → range_with_len (l + i) (n - i) ≡ (l + i) ∷ range_with_len (l + (i + 1)) (n - (i + 1))

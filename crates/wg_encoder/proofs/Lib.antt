@@ -22,3 +22,4 @@ pub mod Finished
 pub mod AnyArcs
 pub mod FileNames
 pub mod InMemory
+pub mod Marking

@@ -1,7 +1,7 @@
 // What copy blocks take.
 ghost use Rattle.std.specs.Prelude.{◌≡◌, ℕ, ◌+◌, ◌-◌, ◌<◌, ◌^◌, ◌==◌, if◌then◌else◌, List, Bool, [], ◌∷◌};
 ghost use Rattle.wg_params.specs.Codes.{IsCode};
-ghost use Rattle.wg_blocks.specs.Canonical.{mask_of};
+ghost use Rattle.wg_blocks.specs.Canonical.{mask_of, canonical_blocks};
 ghost use Rattle.wg_greedy.specs.Fields.{copy_fields};
 ghost use Rattle.wg_encoder.specs.Cost.{room_after};
 ghost use Rattle.wg_encoder.specs.Dues.{dues_of_blocks, block_dues, IsWithin};
@@ -24,6 +24,8 @@ impl BlockTally {
     pub(crate) fn new(params: &Params, reference: u64) -> BlockTally
         ensures fields { (referenced list : List ℕ)
             → block_dues result (mask_of list referenced) ≡ copy_fields params.now reference referenced list }
+        ensures blocks { (referenced list : List ℕ)
+            → dues_of_blocks result (canonical_blocks list referenced) ≡ copy_fields params.now reference referenced list }
         ensures within { IsWithin result 0 }
     {
         BlockTally {
@@ -49,9 +51,9 @@ impl BlockTally {
         }
     }
 
-    // The first block is stored as it is, later ones less 1.
+    /// Adds a block: the first one is stored as it is, later ones less 1.
     #[inline(always)]
-    fn add_block(&mut self, room: u64, block: u64) -> u64
+    pub(crate) fn add_block(&mut self, room: u64, block: u64) -> u64
         requires few { self.old.count < 2 ^ 62 }
         requires code { IsCode self.old.code }
         ensures fields { (blocks : List ℕ) → room_after result (dues_of_blocks self.new blocks)

@@ -64,9 +64,9 @@ impl ExtraTally {
         self.residuals.add_run(room, run)
     }
 
-    // Adds a number, and answers what is left of the room: runs are counted where they end.
+    /// Adds a number, and answers what is left of the room: runs are counted where they end.
     #[inline(always)]
-    fn add(&mut self, room: u64, number: u64) -> u64
+    pub(crate) fn add(&mut self, room: u64, number: u64) -> u64
         requires { (numbers : List ℕ) × MayCome self.old (number ∷ numbers) }
         ensures fields { (numbers : List ℕ) → Ascends (number + 1) numbers
             → room_after result (extra_dues self.new numbers)

@@ -56,6 +56,7 @@ mod archive;
 mod archive_encoder;
 mod blocks;
 mod choice;
+mod common;
 mod cost;
 mod encoder;
 mod error;

@@ -7,6 +7,7 @@ ghost use Rattle.wg_outside.specs.Suffixes.{graph_name, offsets_name};
 ghost use Rattle.wg_params.specs.Parameters.{IsWithinLimits};
 ghost use Rattle.wg_params.specs.declared.limits.TheConstants.{MOST_WINDOW};
 ghost use Rattle.wg_graph.specs.Ascending.{Ascends, Below};
+ghost use Rattle.wg_marks.specs.Common.{IsCommon};
 ghost use Rattle.wg_grammar.specs.Context.{referenced, depth_of};
 ghost use Rattle.wg_grammar.specs.Refusal.{passes};
 ghost use Rattle.wg_decoder.specs.Remembered.{Serves};
@@ -26,6 +27,7 @@ use crate::sharing::shares;
 use std::alloc::{AllocError, Global};
 use std::marker::Model;
 use wg_bits::Writer;
+use wg_marks::{Common, Marked, Marks};
 use wg_params::Params;
 
 /// Writes lists one after the other, each by the reference that makes its record the shortest. They are the lists of
@@ -47,6 +49,8 @@ pub(crate) struct ListEncoder {
     pub(crate) kept: Box<Kept>,
     pub(crate) graph_writer: Box<Writer>,
     pub(crate) offsets_writer: Box<Writer>,
+    // of the list that comes next, once it is marked
+    pub(crate) marks: Box<Marks>,
     // memory for the record of a list, none before the first
     pub(crate) spare: Option<Box<Draft>>,
     // of the archive that the last call named, none before the first
@@ -95,6 +99,7 @@ impl ListEncoder {
         let graph_writer = writer(alloc)?;
         let offsets_writer = writer(alloc)?;
         let params = Box::new(alloc, params)?;
+        let marks = Box::new(alloc, Marks::new())?;
         Ok(ListEncoder {
             alloc,
             page: 0,
@@ -103,6 +108,7 @@ impl ListEncoder {
             kept,
             graph_writer,
             offsets_writer,
+            marks,
             spare: None,
             names: None,
             last: 0,
@@ -189,22 +195,40 @@ impl ListEncoder {
         !self.referenced_list(r).is_empty() && !passes(self.params.chain(), self.depth(r))
     }
 
-    // Whether a list that comes next has a successor of the page that a reference names.
+    // What a list that is marked has in common with the list that a reference names, if both are short.
     #[inline(always)]
-    fn may_copy(&self, list: &[u64], r: u64) -> bool
+    fn common(&self, marked: Option<&Marked<'_>>, r: u64) -> Option<Common>
+        requires { r ≤ min self.now.params.window self.now.next.page }
+        ensures { (list : List ℕ) → ForSome marked.entry (λ m. m.now ≡ list)
+            → ForSome result (IsCommon list (referenced self.now.next.behind r)) }
+    {
+        match marked {
+            Some(marked) => marked.common(self.referenced_list(r)),
+            None => None,
+        }
+    }
+
+    // Whether a list that comes next may have a successor of the page that a reference names.
+    #[inline(always)]
+    fn may_copy(&self, list: &[u64], r: u64, common: Option<Common>) -> bool
         requires list { IsList self.now.params list.now }
         requires reach { r ≤ min self.now.params.window self.now.next.page }
-        ensures { result ≡ shares list.now (referenced self.now.next.behind r) }
+        requires common { ForSome common (IsCommon list.now (referenced self.now.next.behind r)) }
+        ensures { result ≡ false → shares list.now (referenced self.now.next.behind r) ≡ false }
     {
-        shares(list, self.referenced_list(r))
+        match common {
+            Some(common) => common.ours != 0,
+            None => shares(list, self.referenced_list(r)),
+        }
     }
 
     // What the record takes by a reference, if that is wanted only below `most` and each value has a word. It is
     // less than 2 ^ 63 bits: a word but that of the reference and of the block count has at most 2 ^ 8.
-    fn size_below(&self, list: &[u64], r: u64, most: u64) -> Option<u64>
+    fn size_below(&self, list: &[u64], r: u64, common: Option<Common>, most: u64) -> Option<u64>
         requires page { self.now.next.page < self.now.params.nodes }
         requires list { IsList self.now.params list.now }
         requires reach { r ≤ min self.now.params.window self.now.next.page }
+        requires common { ForSome common (IsCommon list.now (referenced self.now.next.behind r)) }
         ensures fewer { IsFewer most (cost_of (canonical self.now.params self.now.next list.now r)) result }
         ensures short { ForSome (cost_of (canonical self.now.params self.now.next list.now r)) (λ n. n < 2 ^ 63) }
     {
@@ -215,6 +239,7 @@ impl ListEncoder {
             r,
             self.referenced_list(r),
             list,
+            common,
             most,
         )
     }
@@ -226,7 +251,7 @@ impl ListEncoder {
         requires reach { r ≤ min self.now.params.window self.now.next.page }
         ensures { result ≡ cost_of (canonical self.now.params self.now.next list.now r) }
     {
-        self.size_below(list, r, u64::MAX)
+        self.size_below(list, r, None, u64::MAX)
     }
 
     // What the record takes without a reference. All values of it have words.
@@ -258,11 +283,18 @@ impl ListEncoder {
     // is no more than what the record takes without a reference. So a page that has no successor of the list is not
     // looked at any further: nothing is copied, and no reference has a shorter word than 0.
     #[inline(always)]
-    fn offer_below(&self, list: &[u64], r: u64, most: u64) -> Option<u64>
+    fn offer_below(
+        &self,
+        list: &[u64],
+        marked: Option<&Marked<'_>>,
+        r: u64,
+        most: u64,
+    ) -> Option<u64>
         requires page { self.now.next.page < self.now.params.nodes }
         requires list { IsList self.now.params list.now }
         requires some { 0 < r }
         requires reach { r ≤ min self.now.params.window self.now.next.page }
+        requires marked { ForSome marked (λ m. m.now ≡ list.now) }
         requires low { most ≤ size_of self.now.params self.now.next list.now 0 }
         ensures { IsFewer most (offer_of self.now.params self.now.next list.now r) result }
     {
@@ -270,10 +302,11 @@ impl ListEncoder {
         if !self.may_refer(r) {
             return None;
         }
-        if !self.may_copy(list, r) {
+        let common = self.common(marked, r);
+        if !self.may_copy(list, r, common) {
             return None;
         }
-        self.size_below(list, r, most)
+        self.size_below(list, r, common, most)
     }
 
     /// Whether a list that comes next may be written by this reference: 0, or one within the window that names a page
@@ -301,7 +334,16 @@ impl ListEncoder {
         }
     }
 
-    // The reference by which a list that comes next is written, and the bits of its record.
+    // Marks the list that comes next, so that its candidates are counted by sets of bits. No memory is taken.
+    #[inline(always)]
+    pub(crate) fn mark(&mut self, list: &[u64])
+        ensures { self.new ≡ self.old }
+    {
+        self.marks.mark(list);
+    }
+
+    // The reference by which a list that comes next is written, and the bits of its record. It is the same whether the
+    // list is marked or not.
     #[inline(always)]
     pub(crate) fn choose(&self, list: &[u64]) -> Choice
         requires page { self.now.next.page < self.now.params.nodes }
@@ -312,8 +354,9 @@ impl ListEncoder {
             reference: 0,
             bits: self.cost(list, 0),
         };
+        let marked = Marked::of(&*self.marks, list);
         for r in 1..self.reach() + 1 {
-            best = best.or(r, self.offer_below(list, r, best.bits));
+            best = best.or(r, self.offer_below(list, marked.as_ref(), r, best.bits));
         }
         best
     }

@@ -103,6 +103,7 @@ impl ListEncoder {
         ensures words { IfOk result (λ r. all_have_words r.draft.value ≡ true) }
         ensures names { IfOk result (λ r. r.names.value ≡ base.now) }
     {
+        self.mark(list);
         let choice = self.choose(list);
         let mut draft = self.take_draft()?;
         self.make(list, &mut *draft, choice)?;

@@ -19,8 +19,9 @@ pub(crate) struct ResidualTally {
 }
 
 impl ResidualTally {
+    /// Adds a number, and answers what is left of the room.
     #[inline(always)]
-    fn add(&mut self, room: u64, number: u64) -> u64
+    pub(crate) fn add(&mut self, room: u64, number: u64) -> u64
         requires page { self.old.page < 2 ^ 62 }
         requires code { IsCode self.old.code }
         requires low { number < 2 ^ 62 }

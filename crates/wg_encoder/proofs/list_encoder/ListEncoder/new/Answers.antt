@@ -22,5 +22,10 @@ returns-in_err-params c =
     let e = err_from_is_err_and c.from_residual-in_err-params.result c.from_residual-in_err-params.ensures.1 in
     rw e.1 record { params = tt; written = tt; begun = tt; waits = tt }
 
+pub returns-in_err-marks : goal.returns-in_err-marks
+returns-in_err-marks c =
+    let e = err_from_is_err_and c.from_residual-in_err-marks.result c.from_residual-in_err-marks.ensures.1 in
+    rw e.1 record { params = tt; written = tt; begun = tt; waits = tt }
+
 pub returns-clause-begun : goal.returns-clause-begun
 returns-clause-begun c files base graph offsets = begun c.in_ok-params.params.value files base _ _ c.in_ok-graph_writer.ensures.bits c.in_ok-offsets_writer.ensures.bits graph offsets

@@ -1,5 +1,6 @@
-use Rattle.std.proofs.Common.{◌^◌, ◌<◌, ap, subst, refl, arith}
+use Rattle.std.proofs.Common.{◌^◌, ◌<◌, ap, sym, subst, refl, arith}
 use Rattle.std.specs.Option.{ForSome}
+use Rattle.wg_marks.specs.Common.{IsCommon}
 use Rattle.wg_graph.proofs.Sets.{below_more}
 use Rattle.wg_encoder.specs.Encoding.{Encoded}
 use Rattle.wg_greedy.specs.Fields.{record_fields}
@@ -14,6 +15,9 @@ record_cost-requires-clause-page c =
 
 pub record_cost-requires-clause-low : goal.record_cost-requires-clause-low
 record_cost-requires-clause-low c = below_more c.args.self.now.params.nodes (2 ^ 62) c.args.list.now (omega (arith, c.limits.ensures.within.nodes)) c.requires.list.below
+
+pub record_cost-requires-clause-common : goal.record_cost-requires-clause-common
+record_cost-requires-clause-common c x is = subst (λ rs. IsCommon c.args.list.now rs x) (sym c.referenced_list.ensures.value) (c.requires.common x is)
 
 pub returns-clause-short : goal.returns-clause-short
 returns-clause-short c =
