@@ -23,8 +23,8 @@ use wg_params::Params;
 /// It is seen as the graph, the page that comes next, and the bits of the two files that wait to go out. That each page
 /// before was written by the reference that is chosen is an invariant. Beside the graph it holds a copy of each list
 /// that a reference may name, with room for at most twice its numbers or for few, and 32 bytes beside it; 4096 bytes
-/// for each file, and their names; and memory for the longest record so far and for the lists that it was made of. Each
-/// memory serves again for later lists.
+/// for each file and for marks, and the names of the files; and memory for the longest record so far and for the lists
+/// that it was made of. Each memory serves again for later lists.
 #[derive(Debug, Drop)]
 pub struct Encoder<'a> {
     pub(crate) graph: &'a Graph,

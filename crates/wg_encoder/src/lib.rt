@@ -7,8 +7,8 @@
 //!
 //! [`Encoder::next`] writes the next list, and [`Encoder::finish`] ends the two files once all are written. Both take
 //! the archive's name, and write the files of its suffixes. The words of the offsets file are 0 and the length of each
-//! record. An encoder has a writer of 4096 bytes for each of the files. If a call of the depot fails, the
-//! [`EncodeError`] names the file, and both files are prefixes of those that were to be written.
+//! record. An encoder has a writer of 4096 bytes for each of the files, and as much for marks. If a call of the depot
+//! fails, the [`EncodeError`] names the file, and both files are prefixes of those that were to be written.
 //!
 //! An [`ArchiveEncoder`] takes lists that come one after the other, and writes no file: what will be the three files is
 //! held in memory, as an [`EncodedArchive`], which tells how many bits its records have and how many of them refer to a
@@ -33,7 +33,11 @@
 //!
 //! - What a candidate takes is counted down from what the best so far takes: no sum can overflow, and a candidate is
 //!   left when nothing is left. From a limit that no record reaches the same count is exact, so that `cost` and the
-//!   choice have one body. *Revisit if* a table spares the passes over two lists.
+//!   choice have one body. *Revisit if* sums that are counted up cost less.
+//! - A list of 1 to 64 numbers is marked once (`wg_marks`), and a candidate's blocks and extras are counted by sets of
+//!   bits: one look-up for each member of the list that is referred to takes the place of a pass over both lists. A
+//!   longer list is counted by that pass, as is one of which two numbers have one slot, and a candidate of which
+//!   [`Encoder::cost`] is asked. The count is the same. *Revisit if* most time goes into longer lists.
 //! - A list that shares no successor with the page's is not counted: the record would have the same extras as without
 //!   a reference, with the blocks on top and a word for the reference that is no shorter (`proofs/Disjoint.antt`). In
 //!   the generated graphs seven of ten candidates are such, and without their counts `recode` took a quarter fewer

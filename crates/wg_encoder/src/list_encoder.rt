@@ -35,9 +35,9 @@ use wg_params::Params;
 ///
 /// It is seen as where the next record stands, how many bits the last one and all have, how many refer to a page
 /// before, and the bits of the two files that wait to go out. It holds a copy of each list that a reference may name,
-/// with room for at most twice its numbers or for few, and 32 bytes beside it; 4096 bytes for each file, and their
-/// names; and memory for the longest record so far and for the lists that it was made of. Each memory serves again for
-/// later lists.
+/// with room for at most twice its numbers or for few, and 32 bytes beside it; 4096 bytes for each file and for marks,
+/// and the names of the files; and memory for the longest record so far and for the lists that it was made of. Each
+/// memory serves again for later lists.
 #[derive(Debug, Drop)]
 pub(crate) struct ListEncoder {
     pub(crate) alloc: Global,
