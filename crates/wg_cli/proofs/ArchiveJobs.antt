@@ -5,6 +5,8 @@ use Rattle.wg_outside.specs.declared.depot.Depot as depot
 use Rattle.wg_outside.specs.declared.sink.Sink as sink
 use Rattle.wg_words.specs.declared.jobs.Job.{Job}
 use Rattle.wg_words.specs.declared.jobs.Job.TheVariants.{Check, Arcs, Ascii, Offsets, Show, Spot, Rank, Verify, Build, Import, Quotient, Recode, Union, Transpose, Bulk}
+use Rattle.wg_words.specs.declared.jobs.RankJob.{RankJob}
+use Rattle.wg_words.specs.declared.jobs.VerifyJob.{VerifyJob}
 use Rattle.wg_params.specs.declared.layout.Layout.{Layout}
 use Rattle.wg_outcomes.specs.Untold.{DoesAnywhere}
 use Rattle.wg_outcomes.specs.declared.status.Status.{Status}
@@ -15,9 +17,8 @@ pub archive_left : (j : Job)
     → ((base : List ℕ) → j ≢ Check base) → ((base : List ℕ) → j ≢ Arcs base) → ((base : List ℕ) → j ≢ Ascii base)
     → ((base : List ℕ) → j ≢ Offsets base) → ((base pages : List ℕ) → j ≢ Show base pages)
     → ((base : List ℕ) (page : ℕ) → j ≢ Spot base page)
-    → ((base : List ℕ) (rounds damping top : ℕ) (weights certificate : Option (List ℕ))
-    → j ≢ Rank base rounds damping top weights certificate)
-    → ((base certificate : List ℕ) (weights : Option (List ℕ)) → j ≢ Verify base certificate weights)
+    → ((job : RankJob) → j ≢ Rank job)
+    → ((job : VerifyJob) → j ≢ Verify job)
     → ((seed pages : ℕ) → j ≢ Bulk seed pages)
     → IsTrue (writes_archive j)
 archive_left (Check base) c a t o s p r v b = absurd (c base refl)
@@ -26,9 +27,8 @@ archive_left (Ascii base) c a t o s p r v b = absurd (t base refl)
 archive_left (Offsets base) c a t o s p r v b = absurd (o base refl)
 archive_left (Show base pages) c a t o s p r v b = absurd (s base pages refl)
 archive_left (Spot base page) c a t o s p r v b = absurd (p base page refl)
-archive_left (Rank base rounds damping top weights certificate) c a t o s p r v b =
-    absurd (r base rounds damping top weights certificate refl)
-archive_left (Verify base certificate weights) c a t o s p r v b = absurd (v base certificate weights refl)
+archive_left (Rank job) c a t o s p r v b = absurd (r job refl)
+archive_left (Verify job) c a t o s p r v b = absurd (v job refl)
 archive_left (Bulk seed pages) c a t o s p r v b = absurd (b seed pages refl)
 archive_left (Build arcs base nodes layout) c a t o s p r v b = refl
 archive_left (Import text base layout) c a t o s p r v b = refl
@@ -52,8 +52,8 @@ none_left (Ascii base) writes b i q r u t = let no : false ≡ true = writes in 
 none_left (Offsets base) writes b i q r u t = let no : false ≡ true = writes in cc
 none_left (Show base pages) writes b i q r u t = let no : false ≡ true = writes in cc
 none_left (Spot base page) writes b i q r u t = let no : false ≡ true = writes in cc
-none_left (Rank base rounds damping top weights certificate) writes b i q r u t = let no : false ≡ true = writes in cc
-none_left (Verify base certificate weights) writes b i q r u t = let no : false ≡ true = writes in cc
+none_left (Rank job) writes b i q r u t = let no : false ≡ true = writes in cc
+none_left (Verify job) writes b i q r u t = let no : false ≡ true = writes in cc
 none_left (Bulk seed pages) writes b i q r u t = let no : false ≡ true = writes in cc
 none_left (Build arcs base nodes layout) writes b i q r u t = b arcs base nodes layout refl
 none_left (Import text base layout) writes b i q r u t = i text base layout refl
@@ -70,8 +70,8 @@ calls_left (Ascii base) b = refl
 calls_left (Offsets base) b = refl
 calls_left (Show base pages) b = refl
 calls_left (Spot base page) b = refl
-calls_left (Rank base rounds damping top weights certificate) b = refl
-calls_left (Verify base certificate weights) b = refl
+calls_left (Rank job) b = refl
+calls_left (Verify job) b = refl
 calls_left (Bulk seed pages) b = absurd (b seed pages refl)
 calls_left (Build arcs base nodes layout) b = refl
 calls_left (Import text base layout) b = refl
@@ -86,9 +86,8 @@ calls is none = let no : true ≡ false = sym is ∙ none in absurd cc
 
 pub anywhere_left : {D O : Type 0} (d : depot.Ghosts D) (o : sink.Ghosts O) (j : Job) (before after : D) (out out' : O)
     (s : Status)
-    → ((base : List ℕ) (rounds damping top : ℕ) (weights certificate : Option (List ℕ))
-    → j ≢ Rank base rounds damping top weights certificate)
-    → ((base certificate : List ℕ) (weights : Option (List ℕ)) → j ≢ Verify base certificate weights)
+    → ((job : RankJob) → j ≢ Rank job)
+    → ((job : VerifyJob) → j ≢ Verify job)
     → ((seed pages : ℕ) → j ≢ Bulk seed pages)
     → DoesAnywhere d o j before after out out' s
 anywhere_left d o (Check base) before after out out' s r v b = tt
@@ -97,10 +96,8 @@ anywhere_left d o (Ascii base) before after out out' s r v b = tt
 anywhere_left d o (Offsets base) before after out out' s r v b = tt
 anywhere_left d o (Show base pages) before after out out' s r v b = tt
 anywhere_left d o (Spot base page) before after out out' s r v b = tt
-anywhere_left d o (Rank base rounds damping top weights certificate) before after out out' s r v b =
-    absurd (r base rounds damping top weights certificate refl)
-anywhere_left d o (Verify base certificate weights) before after out out' s r v b =
-    absurd (v base certificate weights refl)
+anywhere_left d o (Rank job) before after out out' s r v b = absurd (r job refl)
+anywhere_left d o (Verify job) before after out out' s r v b = absurd (v job refl)
 anywhere_left d o (Bulk seed pages) before after out out' s r v b = absurd (b seed pages refl)
 anywhere_left d o (Build arcs base nodes layout) before after out out' s r v b = tt
 anywhere_left d o (Import text base layout) before after out out' s r v b = tt

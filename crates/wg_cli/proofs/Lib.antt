@@ -1,4 +1,3 @@
-pub mod NameLemmas
 pub mod KeyNames
 pub mod ProvenLemmas
 pub mod SteadyLemmas

@@ -6,8 +6,8 @@ use Rattle.wg_words.specs.declared.jobs.Job.TheVariants.{Rank}
 use Rattle.wg_outcomes.specs.Answers.{Answers}
 use Rattle.wg_outcomes.specs.Commands.{judged, ranks}
 use Rattle.wg_outcomes.specs.Judged.{Judged, output_of, status_of, weights_then}
-use Rattle.wg_rank.specs.Rounds.{bounds_after}
-use Rattle.wg_outcomes.specs.Ranked.{PrintsProvenRanking}
+use Rattle.wg_words.specs.declared.jobs.RankJob.{RankJob}
+use Rattle.wg_outcomes.specs.Ranked.{PrintsProvenRanking, bounds_for}
 use Rattle.wg_outcomes.specs.Readings.{Readings}
 use Rattle.wg_outcomes.specs.declared.status.Input.{Input}
 use Rattle.wg_outcomes.specs.declared.status.Input.TheVariants.{Weights}
@@ -22,15 +22,15 @@ pub when_done : (j : Judged) → Answers j Done → Done ≡ status_of j
 when_done j (inl is) = is
 when_done j (inr hinders) = absurd hinders
 
-pub proven_ranking : (r : Readings) (held : Input → Option (List ℕ)) (base : List ℕ) (rounds damping top : ℕ) (weights certificate : Option (List ℕ)) (old new : List ℕ) → rounds ≤ MOST_ROUNDS → damping ≤ MOST_DAMPING
-    → Done ≡ status_of (judged r (Rank base rounds damping top weights certificate) held) → new ≡ old ++ output_of (judged r (Rank base rounds damping top weights certificate) held)
-    → PrintsProvenRanking r held weights rounds damping top old new
-proven_ranking r held base rounds damping top weights certificate old new few damped done put =
-    let then_ranks : Digraph → Option (List ℕ) → Judged = λ g given. ranks r certificate top (bounds_after g given damping rounds) in
-    let last : Digraph → Judged = λ g. weights_then weights g.nodes (held Weights) (then_ranks g) in
+pub proven_ranking : (r : Readings) (held : Input → Option (List ℕ)) (job : RankJob) (old new : List ℕ) → job.rounds ≤ MOST_ROUNDS → job.damping ≤ MOST_DAMPING
+    → Done ≡ status_of (judged r (Rank job) held) → new ≡ old ++ output_of (judged r (Rank job) held)
+    → PrintsProvenRanking r held job old new
+proven_ranking r held job old new few damped done put =
+    let then_ranks : Digraph → Option (List ℕ) → Judged = λ g given. ranks r job.certificate job.top (bounds_for job g given) in
+    let last : Digraph → Judged = λ g. weights_then job.weights g.nodes (held Weights) (then_ranks g) in
     let behind = graph_behind r held last (sym done) in
-    let weighed = weights_behind weights held behind.graph.nodes (then_ranks behind.graph) (ap status_of (sym (behind.goes_on last)) ∙ sym done) in
-    let ends : judged r (Rank base rounds damping top weights certificate) held ≡ then_ranks behind.graph weighed.given = behind.goes_on last ∙ weighed.goes_on (then_ranks behind.graph) in
+    let weighed = weights_behind job.weights held behind.graph.nodes (then_ranks behind.graph) (ap status_of (sym (behind.goes_on last)) ∙ sym done) in
+    let ends : judged r (Rank job) held ≡ then_ranks behind.graph weighed.given = behind.goes_on last ∙ weighed.goes_on (then_ranks behind.graph) in
     record {
       graph = behind.graph;
       given = weighed.given;
@@ -39,7 +39,7 @@ proven_ranking r held base rounds damping top weights certificate old new few da
       ranked = record {
         proper = behind.proper;
         weights = weighed.proper;
-        printed = put ∙ ap (λ (j : Judged). old ++ output_of j) ends ∙ ap (λ (text : List ℕ). old ++ text) (text_ranked r certificate top (bounds_after behind.graph weighed.given damping rounds));
-        proven = proven r rounds damping few damped behind.graph behind.proper behind.few_pages weighed.given weighed.proper;
+        printed = put ∙ ap (λ (j : Judged). old ++ output_of j) ends ∙ ap (λ (text : List ℕ). old ++ text) (text_ranked r job.certificate job.top (bounds_for job behind.graph weighed.given));
+        proven = proven r job.rounds job.damping few damped behind.graph behind.proper behind.few_pages weighed.given weighed.proper;
       };
     }

@@ -4,7 +4,7 @@ use Rattle.wg_outside.specs.declared.output.Output.{Output}
 use Rattle.wg_outside.specs.declared.output.Output.TheVariants as output
 use Rattle.wg_words.specs.declared.jobs.Job.{Job}
 use Rattle.wg_outcomes.specs.JobFiles.{input_name, output_name}
-use Rattle.wg_outcomes.specs.Names.{certificate_to, file_of_fault}
+use Rattle.wg_outcomes.specs.Names.{file_of_fault}
 use Rattle.wg_outcomes.specs.declared.status.Input.{Input}
 use Rattle.wg_outcomes.specs.declared.status.Input.TheVariants as input
 use Rattle.wg_outcomes.specs.declared.status.Status.{Status}
@@ -27,11 +27,6 @@ abbrev pub output_in : Option Job → Output → Option (List ℕ)
 output_in job output.Out = Some (codes "-")
 output_in None o = None
 output_in (Some job) o = output_name job o
-
--- the certificate that a job writes, if one is named
-abbrev pub certificate_in : Option (List ℕ) → Output → Option (List ℕ)
-certificate_in None o = None
-certificate_in (Some name) o = certificate_to name o
 
 -- The line of a status, if the properties promise so many arcs or pages.
 abbrev pub line_of : Option Job → ℕ → Status → List ℕ

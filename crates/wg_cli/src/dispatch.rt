@@ -15,7 +15,7 @@ use wg_outcomes::Ending;
 use wg_outside::{Depot, Sink};
 use wg_queries::check::check;
 use wg_queries::printing::{Listing, print_records};
-use wg_queries::rank::{Asked, rank};
+use wg_queries::rank::rank;
 use wg_queries::verify::verify;
 use wg_transforms::quotient::quotient;
 use wg_transforms::recode::recode;
@@ -43,26 +43,8 @@ pub fn perform<D: Depot, O: Sink>(
         Job::Offsets { base } => print_records(alloc, base, Listing::Offsets, depot, out),
         Job::Show { base, pages } => show(alloc, base, pages, depot, out),
         Job::Spot { base, page } => spot(alloc, base, *page, depot, out),
-        Job::Rank {
-            base,
-            rounds,
-            damping,
-            top,
-            weights,
-            certificate,
-        } => {
-            let asked = Asked {
-                rounds: *rounds,
-                damping: *damping,
-                top: *top,
-            };
-            rank(alloc, base, asked, weights, certificate, depot, out)
-        }
-        Job::Verify {
-            base,
-            certificate,
-            weights,
-        } => verify(alloc, base, certificate, weights, depot, out),
+        Job::Rank(job) => rank(alloc, job, depot, out),
+        Job::Verify(job) => verify(alloc, job, depot, out),
         Job::Bulk { seed, pages } => bulk(alloc, *seed, *pages, out),
         _ => perform_archive_job(alloc, job, depot, out),
     }

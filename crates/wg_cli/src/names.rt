@@ -2,8 +2,7 @@ ghost use Rattle.std.specs.Prelude.{◌≡◌, ◌++◌, Some};
 ghost use Rattle.wg_outside.specs.declared.suffixes.TheConstants.{PROPERTIES, GRAPH, OFFSETS};
 ghost use Rattle.wg_outcomes.specs.JobFiles.{input_name, output_name};
 ghost use Rattle.wg_outcomes.specs.Names.{archive_files, archive_named, list_named, name_of_input, record_files, second_files, text_named};
-ghost use Rattle.wg_outcomes.specs.Names.{certificate_file, certificate_to, map_file, weights_file};
-ghost use Rattle.wg_cli.specs.Lines.{certificate_in};
+ghost use Rattle.wg_outcomes.specs.Names.{certificate_file, certificate_outputs, certificate_to, map_file, name_of_output, weights_file};
 
 use crate::Input;
 use crate::file_name::FileName;
@@ -23,12 +22,8 @@ pub(crate) fn input_name(job: &Job, input: Input) -> Option<FileName<'_>>
         | Job::Offsets { base }
         | Job::Recode { input: base, .. }
         | Job::Transpose { input: base, .. } => record_input(base, input),
-        Job::Rank { base, weights, .. } => rank_input(base, weights, input),
-        Job::Verify {
-            base,
-            certificate,
-            weights,
-        } => verify_input(base, certificate, weights, input),
+        Job::Rank(job) => rank_input(&job.base, &job.weights, input),
+        Job::Verify(job) => verify_input(&job.base, &job.certificate, &job.weights, input),
         Job::Build { arcs, .. } => list_named(arcs, input),
         Job::Import { text, .. } => text_named(text, input),
         Job::Quotient {
@@ -177,9 +172,9 @@ pub(crate) fn output_name(job: &Job, output: Output) -> Option<FileName<'_>>
         | Job::Offsets { .. }
         | Job::Show { .. }
         | Job::Spot { .. }
-        | Job::Verify { .. }
+        | Job::Verify(_)
         | Job::Bulk { .. } => None,
-        Job::Rank { certificate, .. } => certificate_in(certificate, output),
+        Job::Rank(job) => certificate_in(&job.certificate, output),
         Job::Build { base, .. }
         | Job::Import { base, .. }
         | Job::Quotient { output: base, .. }
@@ -202,7 +197,7 @@ fn archive_named(base: &Name, output: Output) -> Option<FileName<'_>>
 
 // The name of the certificate that is written, if one is named.
 fn certificate_in(certificate: &Option<Name>, output: Output) -> Option<FileName<'_>>
-    ensures { result ≡ certificate_in certificate.now output }
+    ensures { result ≡ name_of_output (certificate_outputs certificate.now) output }
 {
     match certificate {
         None => None,

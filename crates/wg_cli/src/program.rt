@@ -3,6 +3,8 @@ ghost use Rattle.wg_outside.specs.Outside.{Increased, NonDecreasing};
 ghost use Rattle.wg_outside.specs.declared.output.Output.{Output};
 ghost use Rattle.wg_words.specs.Jobs.{job_of, IsWithin};
 ghost use Rattle.wg_words.specs.declared.jobs.Job.{Job};
+ghost use Rattle.wg_words.specs.declared.jobs.RankJob.{RankJob};
+ghost use Rattle.wg_words.specs.declared.jobs.VerifyJob.{VerifyJob};
 ghost use Rattle.wg_outcomes.specs.Reached.{Reaches};
 ghost use Rattle.wg_outcomes.specs.Answers.{Answers, HasOutput, IsHindrance, IsPutLast, IsUnprinted, status_in};
 ghost use Rattle.wg_outcomes.specs.Causes.{AreFaultless, HasCause};
@@ -78,18 +80,15 @@ pub fn run<D: Depot, O: Sink, E: Sink>(
     // some graph. If memory runs out, nothing is printed or written yet, unless the output or the certificate's file
     // was out of memory. Of a generated graph, each page that is counted as sure has one position in every such
     // iterate.
-    ensures certified { IsTrue D.told → IsTrue O.told → (r : Readings) (base : List ℕ) (rounds damping top : ℕ)
-        (weights certificate : Option (List ℕ))
-        → job_of words.now ≡ Some (Job.Rank base rounds damping top weights certificate) → result ≡ Status.Done
-        → PrintsProvenRanking r (held_for (Job.Rank base rounds damping top weights certificate)
-        (D.files depot.old)) weights rounds damping top (O.taken out.old) (O.taken out.new) }
-    ensures ranked { IsTrue O.told → (r : Readings) (base : List ℕ) (rounds damping top : ℕ)
-        (weights certificate : Option (List ℕ))
-        → job_of words.now ≡ Some (Job.Rank base rounds damping top weights certificate) → result ≡ Status.Done
-        → PrintsSomeRanking r weights rounds damping top (O.taken out.old) (O.taken out.new) }
-    ensures wants_first { (base : List ℕ) (rounds damping top : ℕ) (weights certificate : Option (List ℕ))
-        → job_of words.now ≡ Some (Job.Rank base rounds damping top weights certificate)
-        → WantsFirst ⟦<D as Depot>⟧ ⟦<O as Sink>⟧ certificate depot.old depot.new out.old out.new result }
+    ensures certified { IsTrue D.told → IsTrue O.told → (r : Readings) (job : RankJob)
+        → job_of words.now ≡ Some (Job.Rank job) → result ≡ Status.Done
+        → PrintsProvenRanking r (held_for (Job.Rank job) (D.files depot.old)) job
+        (O.taken out.old) (O.taken out.new) }
+    ensures ranked { IsTrue O.told → (r : Readings) (job : RankJob)
+        → job_of words.now ≡ Some (Job.Rank job) → result ≡ Status.Done
+        → PrintsSomeRanking r job (O.taken out.old) (O.taken out.new) }
+    ensures wants_first { (job : RankJob) → job_of words.now ≡ Some (Job.Rank job)
+        → WantsFirst ⟦<D as Depot>⟧ ⟦<O as Sink>⟧ job.certificate depot.old depot.new out.old out.new result }
     ensures sure { IsTrue O.told → (r : Readings) (seed pages : ℕ)
         → job_of words.now ≡ Some (Job.Bulk seed pages) → result ≡ Status.Done
         → PrintsProvenOutcome r seed pages (O.taken out.old) (O.taken out.new) }
@@ -97,19 +96,17 @@ pub fn run<D: Depot, O: Sink, E: Sink>(
     // What is printed of a certificate: what its bounds leave of 1. Each stationary vector lies between the bounds and
     // those with so much more, with teleport by the weights that were read or to each page alike; and whatever the
     // depot, over some graph and by some weights.
-    ensures verified { IsTrue D.told → IsTrue O.told → (r : Readings) (base certificate : List ℕ)
-        (weights : Option (List ℕ))
-        → job_of words.now ≡ Some (Job.Verify base certificate weights) → result ≡ Status.Done
-        → PrintsProvenGap r (held_for (Job.Verify base certificate weights) (D.files depot.old)) weights
+    ensures verified { IsTrue D.told → IsTrue O.told → (r : Readings) (job : VerifyJob)
+        → job_of words.now ≡ Some (Job.Verify job) → result ≡ Status.Done
+        → PrintsProvenGap r (held_for (Job.Verify job) (D.files depot.old)) job.weights
         (O.taken out.old) (O.taken out.new) }
-    ensures leaves { IsTrue O.told → (base certificate : List ℕ) (weights : Option (List ℕ))
-        → job_of words.now ≡ Some (Job.Verify base certificate weights) → result ≡ Status.Done
-        → PrintsSomeGap weights (O.taken out.old) (O.taken out.new) }
+    ensures leaves { IsTrue O.told → (job : VerifyJob)
+        → job_of words.now ≡ Some (Job.Verify job) → result ≡ Status.Done
+        → PrintsSomeGap job.weights (O.taken out.old) (O.taken out.new) }
 
     // What `rank` wrote of the same graph and weights is accepted.
-    ensures accepts { IsTrue D.told → (r : Readings) (base certificate : List ℕ) (weights : Option (List ℕ))
-        → job_of words.now ≡ Some (Job.Verify base certificate weights)
-        → HoldsWritten r (held_for (Job.Verify base certificate weights) (D.files depot.old)) base certificate weights
+    ensures accepts { IsTrue D.told → (r : Readings) (job : VerifyJob) → job_of words.now ≡ Some (Job.Verify job)
+        → HoldsWritten r (held_for (Job.Verify job) (D.files depot.old)) job.weights
         → (result ≡ Status.Done) ⊎ IsHindrance result }
 
     // What stands on the output, in the files and on the error output.

@@ -19,7 +19,7 @@ use Rattle.wg_words.specs.declared.jobs.Job.TheVariants.{Check, Arcs, Ascii, Off
 use Rattle.wg_outcomes.specs.Bulk.{bulk_bounds, bulk_params, outcome_of, outcome_text}
 use Rattle.wg_outcomes.specs.Commands.{builds, judged, ranks}
 use Rattle.wg_outcomes.specs.Judged.{Judged, accepted, claim_then, map_then, offsets_then, unless_bad_list, unless_some_differ, weights_then, with_archive, with_digraph, with_file, with_graph, with_records, with_successors}
-use Rattle.wg_rank.specs.Rounds.{bounds_after}
+use Rattle.wg_outcomes.specs.Ranked.{bounds_for}
 use Rattle.wg_outcomes.specs.Readings.{Readings, ReadingsAgree}
 use Rattle.wg_outcomes.specs.Second.{of_second, second_held}
 use Rattle.wg_outcomes.specs.Verified.{verified_line, with_gap}
@@ -100,13 +100,13 @@ outcome_same r q agree (Spot base page) held =
     records_same held _ _ (λ p within bytes.
     stored_same r q agree p within (held input.Offsets) _ _ (λ places.
     successors_same r q agree p within bytes places page _))
-outcome_same r q agree (Rank base rounds damping top weights certificate) held =
+outcome_same r q agree (Rank job) held =
     digraph_same r q agree held _ _ (λ g.
-    given_same weights g.nodes (held input.Weights) _ _ (λ given.
-    ranks_same r q agree certificate top (bounds_after g given damping rounds)))
-outcome_same r q agree (Verify base certificate weights) held =
+    given_same job.weights g.nodes (held input.Weights) _ _ (λ given.
+    ranks_same r q agree job.certificate job.top (bounds_for job g given)))
+outcome_same r q agree (Verify job) held =
     done_same r q agree held (λ g.
-    weights_then weights g.nodes (held input.Weights) (λ given.
+    weights_then job.weights g.nodes (held input.Weights) (λ given.
     claim_then g.nodes (held input.Certificate) (λ c.
     with_gap g c given (λ left. accepted (verified_line c left)))))
 outcome_same r q agree (Build arcs base nodes layout) held =

@@ -10,13 +10,13 @@ use Rattle.wg_rank.proofs.Pageranks.{gap_shrinks, high_falls, low_rises}
 use Rattle.wg_words.specs.declared.jobs.Job.TheVariants.{Rank}
 use Rattle.wg_outcomes.specs.Judged.{Judged, output_of, status_of, weights_then}
 use Rattle.wg_rank.specs.Rounds.{bounds_after}
-use Rattle.wg_outcomes.specs.Ranked.{ranking_text}
+use Rattle.wg_outcomes.specs.Ranked.{bounds_for, ranking_text}
 use Rattle.wg_outcomes.specs.Readings.{Readings}
 use Rattle.wg_outcomes.specs.declared.status.Input.TheVariants.{Weights}
 use Rattle.wg_outcomes.specs.declared.status.Status.TheVariants.{Done}
 use Rattle.wg_outcomes.specs.Commands.{judged, ranks}
 use Rattle.wg_rank.proofs.After.{bounds_hold}
-use Rattle.wg_laws.specs.Rounds.{MoreRoundsNarrow}
+use Rattle.wg_laws.specs.Rounds.{MoreRoundsNarrow, with_rounds}
 use Rattle.wg_laws.proofs.HeldLemmas.{graph_behind}
 use Rattle.wg_laws.proofs.WeightsLemmas.{weights_behind}
 
@@ -45,35 +45,35 @@ ranking_done : (r : Readings) (certificate : Option (List ℕ)) (top : ℕ) (b :
 ranking_done r certificate top b = grind arith
 
 pub more_narrow : (r : Readings) → MoreRoundsNarrow r
-more_narrow r held base fewer more damping top weights certificate le damped done =
-    let on : ℕ → Digraph → Option (List ℕ) → Judged = λ k g given. ranks r certificate top (bounds_after g given damping k) in
-    let last : ℕ → Digraph → Judged = λ k g. weights_then weights g.nodes (held Weights) (on k g) in
-    let behind = graph_behind r held (last fewer) done in
+more_narrow r held job more le damped done =
+    let on : ℕ → Digraph → Option (List ℕ) → Judged = λ k g given. ranks r job.certificate job.top (bounds_after g given job.damping k) in
+    let last : ℕ → Digraph → Judged = λ k g. weights_then job.weights g.nodes (held Weights) (on k g) in
+    let behind = graph_behind r held (last job.rounds) done in
     let g : Digraph = behind.graph in
-    let heavy = weights_behind weights held g.nodes (on fewer g) (ap status_of (sym (behind.goes_on (last fewer))) ∙ done) in
+    let heavy = weights_behind job.weights held g.nodes (on job.rounds g) (ap status_of (sym (behind.goes_on (last job.rounds))) ∙ done) in
     let given : Option (List ℕ) = heavy.given in
     let w : ℕ → ℕ = by_page (weights_of g.nodes given) in
     let some : 0 < g.nodes → 0 < total g w = heavy.proper.some in
-    let ends : (k : ℕ) → judged r (Rank base k damping top weights certificate) held ≡ on k g given = λ k. behind.goes_on (last k) ∙ heavy.goes_on (on k g) in
-    let printed : (k : ℕ) → output_of (judged r (Rank base k damping top weights certificate) held) ≡ ranking_text r (bounds_after g given damping k) top =
-    λ k. ap output_of (ends k) ∙ text_ranked r certificate top (bounds_after g given damping k) in
+    let ends : (k : ℕ) → judged r (Rank (with_rounds k job)) held ≡ on k g given = λ k. behind.goes_on (last k) ∙ heavy.goes_on (on k g) in
+    let printed : (k : ℕ) → output_of (judged r (Rank (with_rounds k job)) held) ≡ ranking_text r (bounds_after g given job.damping k) job.top =
+    λ k. ap output_of (ends k) ∙ text_ranked r job.certificate job.top (bounds_after g given job.damping k) in
     record {
       graph = g;
       given = given;
       stored = behind.stored;
       weighed = heavy.stored;
-      fewer_printed = printed fewer;
-      more_done = ap status_of (ends more) ∙ ranking_done r certificate top (bounds_after g given damping more);
+      fewer_printed = printed job.rounds;
+      more_done = ap status_of (ends more) ∙ ranking_done r job.certificate job.top (bounds_after g given job.damping more);
       more_printed = printed more;
       inside = record {
         low = λ v lt.
-            rw ((bounds_hold g given fewer damping).low_is.each v lt, (bounds_hold g given more damping).low_is.each v lt)
-            (rises (λ k. low g damping w k v) (λ k. low_rises g damping w behind.proper (omega (arith, damped)) (omega arith) (some (omega arith)) k v) fewer more le);
+            rw ((bounds_hold g given job.rounds job.damping).low_is.each v lt, (bounds_hold g given more job.damping).low_is.each v lt)
+            (rises (λ k. low g job.damping w k v) (λ k. low_rises g job.damping w behind.proper (omega (arith, damped)) (omega arith) (some (omega arith)) k v) job.rounds more le);
         high = λ v lt.
-            rw ((bounds_hold g given fewer damping).high_is.each v lt, (bounds_hold g given more damping).high_is.each v lt)
-            (falls (λ k. high g damping w k v) (λ k. high_falls g damping w behind.proper (omega (arith, damped)) (omega arith) (some (omega arith)) k v) fewer more le);
+            rw ((bounds_hold g given job.rounds job.damping).high_is.each v lt, (bounds_hold g given more job.damping).high_is.each v lt)
+            (falls (λ k. high g job.damping w k v) (λ k. high_falls g job.damping w behind.proper (omega (arith, damped)) (omega arith) (some (omega arith)) k v) job.rounds more le);
       };
       gap = λ next so.
-          rw (gap_of (bounds_after g given damping more) g (bounds_hold g given more damping), gap_of (bounds_after g given damping fewer) g (bounds_hold g given fewer damping), next)
-          (gap_shrinks g damping w behind.proper (omega (arith, damped)) so (some so) fewer);
+          rw (gap_of (bounds_after g given job.damping more) g (bounds_hold g given more job.damping), gap_of (bounds_for job g given) g (bounds_hold g given job.rounds job.damping), next)
+          (gap_shrinks g job.damping w behind.proper (omega (arith, damped)) so (some so) job.rounds);
     }

@@ -10,6 +10,7 @@ use Rattle.wg_rank.specs.CertificateText.{claim_of}
 use Rattle.wg_rank.specs.declared.fault.CertFault.{CertFault}
 use Rattle.wg_rank.proofs.Certificates.{enclosing}
 use Rattle.wg_words.specs.declared.jobs.Job.TheVariants.{Verify}
+use Rattle.wg_words.specs.declared.jobs.VerifyJob.{VerifyJob}
 use Rattle.wg_outcomes.specs.Judged.{Judged, accepted, claim_then, output_of, status_of, unless_bad_claim, weights_then, with_claim}
 use Rattle.wg_outcomes.specs.Readings.{Readings}
 use Rattle.wg_outcomes.specs.declared.status.Input.{Input}
@@ -28,18 +29,18 @@ claim_read w next h = grind arith
 gap_read : (o : Option ℕ) (left : ℕ) (next : ℕ → Judged) → status_of (unless_falls o left next) ≡ Done → (o ≡ None) × (unless_falls o left next ≡ next left)
 gap_read o left next h = grind arith
 
-pub proven_gap : (r : Readings) (held : Input → Option (List ℕ)) (base certificate : List ℕ) (weights : Option (List ℕ)) (old new : List ℕ)
-    → Done ≡ status_of (judged r (Verify base certificate weights) held) → new ≡ old ++ output_of (judged r (Verify base certificate weights) held)
-    → PrintsProvenGap r held weights old new
-proven_gap r held base certificate weights old new done put =
+pub proven_gap : (r : Readings) (held : Input → Option (List ℕ)) (job : VerifyJob) (old new : List ℕ)
+    → Done ≡ status_of (judged r (Verify job) held) → new ≡ old ++ output_of (judged r (Verify job) held)
+    → PrintsProvenGap r held job.weights old new
+proven_gap r held job old new done put =
     let on_gap : Claim → ℕ → Judged = λ c left. accepted (verified_line c left) in
     let on_claim : Digraph → Option (List ℕ) → Claim → Judged = λ g given c. with_gap g c given (on_gap c) in
     let on_weights : Digraph → Option (List ℕ) → Judged = λ g given. claim_then g.nodes (held input.Certificate) (on_claim g given) in
-    let on_graph : Digraph → Judged = λ g. weights_then weights g.nodes (held input.Weights) (on_weights g) in
+    let on_graph : Digraph → Judged = λ g. weights_then job.weights g.nodes (held input.Weights) (on_weights g) in
     let behind = graph_behind r held on_graph (sym done) in
     let g = behind.graph in
     let to_graph = behind.goes_on on_graph in
-    let heavy = weights_behind weights held g.nodes (on_weights g) (ap status_of (sym to_graph) ∙ sym done) in
+    let heavy = weights_behind job.weights held g.nodes (on_weights g) (ap status_of (sym to_graph) ∙ sym done) in
     let to_weights = to_graph ∙ heavy.goes_on (on_weights g) in
     let given = heavy.given in
     let file = file_read input.Certificate (held input.Certificate) (λ b. with_claim g.nodes b (on_claim g given)) (ap status_of (sym to_weights) ∙ sym done) in
@@ -70,7 +71,7 @@ proven_gap r held base certificate weights old new done put =
       };
     }
 
-pub accepted_proven : (r : Readings) (held : Input → Option (List ℕ)) (base certificate : List ℕ) (weights : Option (List ℕ)) (out old : List ℕ)
-    → judged r (Verify base certificate weights) held ≡ accepted out → PrintsProvenGap r held weights old (old ++ out)
-accepted_proven r held base certificate weights out old is =
-    proven_gap r held base certificate weights old (old ++ out) (sym (ap status_of is)) (ap (λ (j : Judged). old ++ output_of j) (sym is))
+pub accepted_proven : (r : Readings) (held : Input → Option (List ℕ)) (job : VerifyJob) (out old : List ℕ)
+    → judged r (Verify job) held ≡ accepted out → PrintsProvenGap r held job.weights old (old ++ out)
+accepted_proven r held job out old is =
+    proven_gap r held job old (old ++ out) (sym (ap status_of is)) (ap (λ (j : Judged). old ++ output_of j) (sym is))

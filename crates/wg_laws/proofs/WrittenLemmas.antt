@@ -25,8 +25,9 @@ use Rattle.wg_outcomes.specs.declared.status.Input.{Input}
 use Rattle.wg_outcomes.specs.declared.status.Input.TheVariants as input
 use Rattle.wg_laws.specs.Certificates.{AreStill}
 use Rattle.wg_outcomes.specs.Commands.{judged, ranks}
-use Rattle.wg_rank.specs.Rounds.{bounds_after}
-use Rattle.wg_outcomes.specs.Ranked.{certificate_text, ranking_text}
+use Rattle.wg_words.specs.declared.jobs.RankJob.{RankJob}
+use Rattle.wg_words.specs.declared.jobs.VerifyJob.{VerifyJob}
+use Rattle.wg_outcomes.specs.Ranked.{bounds_for, certificate_text}
 use Rattle.wg_outcomes.specs.Verified.{first_fall, unless_falls, verified_line, with_gap}
 use Rattle.wg_laws.proofs.ClaimLemmas.{right}
 use Rattle.wg_laws.proofs.HeldLemmas.{graph_behind}
@@ -58,28 +59,28 @@ short_text c is =
     in_all _ _ _ _ (length c.low) (three_parts (named_line (codes "damping ") c.damping) (named_line (codes "pages ") (length c.low)) (bound_lines c.low))
     (short_line (codes "damping ") c.damping (omega (arith, is.damped))) (short_line (codes "pages ") (length c.low) (omega (arith, is.few))) (lines_length c.low) is.few
 
-same_text : (text out text' out' : List ℕ) → certified text out ≡ certified text' out' → text ≡ text'
-same_text text out text' out' is = cc is
+certified_text : (r : Readings) (certificate : Option (List ℕ)) (top : ℕ) (b : Intervals) (text out : List ℕ) → ranks r certificate top b ≡ certified text out → text ≡ certificate_text b
+certified_text r certificate top b text out h = grind arith
 
 module _ (r : Readings) (held after : Input → Option (List ℕ)) (still : AreStill held after) where
   same_records : (next : Parameters → List ℕ → Judged) → with_records after next ≡ with_records held next
   same_records next = grind arith
 
-  module _ (base certificate : List ℕ) (rounds damping top : ℕ) (weights : Option (List ℕ)) (text out : List ℕ) (few : rounds ≤ MOST_ROUNDS) (damped : damping ≤ MOST_DAMPING)
-      (is : judged r (Rank base rounds damping top weights (Some certificate)) held ≡ certified text out) (there : after input.Certificate ≡ Some text) where
-    pub written_accepted : (line : List ℕ) × (judged r (Verify base certificate weights) after ≡ accepted line)
+  module _ (job : RankJob) (next : VerifyJob) (text out : List ℕ) (few : job.rounds ≤ MOST_ROUNDS) (damped : job.damping ≤ MOST_DAMPING) (alike : job.weights ≡ next.weights)
+      (is : judged r (Rank job) held ≡ certified text out) (there : after input.Certificate ≡ Some text) where
+    pub written_accepted : (line : List ℕ) × (judged r (Verify next) after ≡ accepted line)
     written_accepted =
-        let then_ranks : Digraph → Option (List ℕ) → Judged = λ g given. ranks r (Some certificate) top (bounds_after g given damping rounds) in
-        let last : Digraph → Judged = λ g. weights_then weights g.nodes (held input.Weights) (then_ranks g) in
+        let then_ranks : Digraph → Option (List ℕ) → Judged = λ g given. ranks r job.certificate job.top (bounds_for job g given) in
+        let last : Digraph → Judged = λ g. weights_then job.weights g.nodes (held input.Weights) (then_ranks g) in
         let behind = graph_behind r held last (ap status_of is) in
         let g = behind.graph in
-        let heavy = weights_behind weights held g.nodes (then_ranks g) (ap status_of (sym (behind.goes_on last) ∙ is)) in
+        let heavy = weights_behind job.weights held g.nodes (then_ranks g) (ap status_of (sym (behind.goes_on last) ∙ is)) in
         let given = heavy.given in
-        let b : Intervals = bounds_after g given damping rounds in
+        let b : Intervals = bounds_for job g given in
         let claim : Claim = claim_of_bounds b in
-        let same : text ≡ certificate_text b = same_text text out (certificate_text b) (ranking_text r b top) (sym is ∙ behind.goes_on last ∙ heavy.goes_on (then_ranks g)) in
-        let bounds : AreBounds b = are_bounds g given rounds damping few damped behind.few_pages heavy.proper in
-        let holds : AreBoundsOf b g = bounds_hold g given rounds damping in
+        let same : text ≡ certificate_text b = certified_text r job.certificate job.top b text out (sym (heavy.goes_on (then_ranks g)) ∙ sym (behind.goes_on last) ∙ is) in
+        let bounds : AreBounds b = are_bounds g given job.rounds job.damping few damped behind.few_pages heavy.proper in
+        let holds : AreBoundsOf b g = bounds_hold g given job.rounds job.damping in
         let rises = complete b g behind.proper bounds holds in
         let count : length b.low ≡ g.nodes = holds.low_is.counted in
         let proper : IsClaim claim =
@@ -87,16 +88,17 @@ module _ (r : Readings) (held after : Input → Option (List ℕ)) (still : AreS
         let read : claim_of g.nodes text ≡ right claim =
         ap (λ (t : List ℕ). claim_of g.nodes t) same ∙ subst (λ (n : ℕ). claim_of n (text_of_claim claim) ≡ right claim) count (written_back claim proper) in
         let none : first_fall g claim given ≡ None =
-        none_falls g claim given (subst (λ (n : ℕ). Rises g damping (by_page (weights_of n given)) (by_page b.low)) (sym count) rises.0) in
+        none_falls g claim given (subst (λ (n : ℕ). Rises g job.damping (by_page (weights_of n given)) (by_page b.low)) (sym count) rises.0) in
         let short : length text ≤ MOST_BYTES = subst (λ (t : List ℕ). length t ≤ MOST_BYTES) (sym same) (short_text claim proper) in
         let on_gap : Claim → ℕ → Judged = λ c left. accepted (verified_line c left) in
         let on_claim : Claim → Judged = λ c. with_gap g c given (on_gap c) in
         let on_given : Digraph → Option (List ℕ) → Judged = λ h ws. claim_then h.nodes (after input.Certificate) (λ c. with_gap h c ws (on_gap c)) in
-        let on_graph : Digraph → Judged = λ h. weights_then weights h.nodes (after input.Weights) (on_given h) in (
+        let on_graph : Digraph → Judged = λ h. weights_then job.weights h.nodes (after input.Weights) (on_given h) in (
           verified_line claim (gap g (by_page b.low)),
-          same_records (λ p bytes. with_digraph r p bytes on_graph)
+          ap (λ (o : Option (List ℕ)). with_records after (λ p bytes. with_digraph r p bytes (λ h. weights_then o h.nodes (after input.Weights) (on_given h)))) (sym alike)
+              ∙ same_records (λ p bytes. with_digraph r p bytes on_graph)
               ∙ behind.goes_on on_graph
-              ∙ ap (λ (o : Option (List ℕ)). weights_then weights g.nodes o (on_given g)) still.weights
+              ∙ ap (λ (o : Option (List ℕ)). weights_then job.weights g.nodes o (on_given g)) still.weights
               ∙ heavy.goes_on (on_given g)
               ∙ ap (λ (o : Option (List ℕ)). claim_then g.nodes o on_claim) there
               ∙ file_goes input.Certificate text short (λ bytes. with_claim g.nodes bytes on_claim)

@@ -12,10 +12,10 @@ use Rattle.wg_arcs.specs.Text.{text_of_arcs, text_of_graph}
 use Rattle.wg_ascii.specs.Laws.{HaveSameWords}
 use Rattle.wg_ascii.specs.Text as plain
 use Rattle.wg_words.specs.declared.jobs.Job.TheVariants.{Check, Arcs, Ascii, Offsets, Show, Rank, Build, Import, Recode, Transpose}
+use Rattle.wg_words.specs.declared.jobs.RankJob.{RankJob}
 use Rattle.wg_params.specs.declared.layout.Layout.{Layout}
 use Rattle.wg_outcomes.specs.Readings.{Readings}
-use Rattle.wg_rank.specs.Rounds.{bounds_after}
-use Rattle.wg_outcomes.specs.Ranked.{HoldGraph, ranking_text}
+use Rattle.wg_outcomes.specs.Ranked.{HoldGraph, bounds_for, ranking_text}
 use Rattle.wg_outcomes.specs.Written.{greedy_archive}
 use Rattle.wg_outcomes.specs.Judged.{accepted, built, with_pages}
 use Rattle.wg_outcomes.specs.Commands.{judged, number_lines, ok_line, successors_lines}
@@ -48,9 +48,9 @@ pub record IsAcceptedAs (r : Readings) (p : Parameters) (g : Digraph) (base : Li
   pub show : (pages : List ℕ)
       → judged r (Show base pages) (holding (greedy_archive p g)) ≡ with_pages g.nodes pages
       (λ all. accepted (successors_lines g.lists pages))
-  pub rank : (rounds damping top : ℕ)
-      → judged r (Rank base rounds damping top None None) (holding (greedy_archive p g)) ≡ accepted
-      (ranking_text r (bounds_after g None damping rounds) top)
+  pub rank : (job : RankJob) → job.weights ≡ None → job.certificate ≡ None
+      → judged r (Rank job) (holding (greedy_archive p g)) ≡ accepted
+      (ranking_text r (bounds_for job g None) job.top)
 
 abbrev pub BuiltAreAccepted : Readings → Type 0
 BuiltAreAccepted r = (p : Parameters) (g : Digraph) (base : List ℕ) → IsWithinLimits p → IsGraph g → p.nodes ≡ g.nodes

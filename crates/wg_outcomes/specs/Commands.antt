@@ -23,8 +23,7 @@ use Rattle.wg_outcomes.specs.JobFiles.{writes_files}
 use Rattle.wg_outcomes.specs.Readings.{Readings}
 use Rattle.wg_outcomes.specs.Second.{of_second, second_held}
 use Rattle.wg_outcomes.specs.declared.status.Status.TheVariants.{TooManyArcs}
-use Rattle.wg_rank.specs.Rounds.{bounds_after}
-use Rattle.wg_outcomes.specs.Ranked.{certificate_text, ranking_text}
+use Rattle.wg_outcomes.specs.Ranked.{bounds_for, certificate_text, ranking_text}
 use Rattle.wg_outcomes.specs.Verified.{verified_line, with_gap}
 use Rattle.wg_outcomes.specs.Written.{greedy_archive, params_for}
 use Rattle.wg_outcomes.specs.declared.status.Input.{Input}
@@ -89,13 +88,13 @@ judged r (Show base pages) held =
 judged r (Spot base page) held =
     with_records held (λ p bytes. offsets_then r p (held input.Offsets) (λ places.
     with_successors r p bytes places page (λ list. accepted (successors_line page list))))
-judged r (Rank base rounds damping top weights certificate) held =
+judged r (Rank job) held =
     with_records held (λ p bytes. with_digraph r p bytes (λ g.
-    weights_then weights g.nodes (held input.Weights) (λ given.
-    ranks r certificate top (bounds_after g given damping rounds))))
-judged r (Verify base certificate weights) held =
+    weights_then job.weights g.nodes (held input.Weights) (λ given.
+    ranks r job.certificate job.top (bounds_for job g given))))
+judged r (Verify job) held =
     with_records held (λ p bytes. with_digraph r p bytes (λ g.
-    weights_then weights g.nodes (held input.Weights) (λ given.
+    weights_then job.weights g.nodes (held input.Weights) (λ given.
     claim_then g.nodes (held input.Certificate) (λ c.
     with_gap g c given (λ left. accepted (verified_line c left))))))
 judged r (Build arcs base nodes layout) held =

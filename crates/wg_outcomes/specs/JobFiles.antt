@@ -1,5 +1,5 @@
 -- The files of a job.
-use Rattle.wg_outcomes.specs.Names.{name_of_input, name_of_output, record_files, archive_files, second_files, list_file, text_file, weights_file, certificate_file, map_file, archive_outputs, certificate_output, held_by, file_of_fault}
+use Rattle.wg_outcomes.specs.Names.{name_of_input, name_of_output, record_files, archive_files, second_files, list_file, text_file, weights_file, certificate_file, map_file, archive_outputs, certificate_outputs, held_by, file_of_fault}
 use Rattle.std.specs.Prelude.{ℕ, Bool, true, false, nat_lt, ◌==◌, List, [], ◌++◌, length, Option, Some, is_some}
 use Rattle.wg_outside.specs.Outside.{Files}
 use Rattle.wg_outside.specs.declared.output.Output.{Output}
@@ -22,8 +22,9 @@ inputs_of (Ascii base) = record_files base
 inputs_of (Offsets base) = record_files base
 inputs_of (Show base pages) = archive_files base
 inputs_of (Spot base page) = archive_files base
-inputs_of (Rank base rounds damping top weights certificate) = record_files base ++ weights_file weights
-inputs_of (Verify base certificate weights) = record_files base ++ weights_file weights ++ certificate_file certificate
+inputs_of (Rank job) = record_files job.base ++ weights_file job.weights
+inputs_of (Verify job) =
+    record_files job.base ++ weights_file job.weights ++ certificate_file job.certificate
 inputs_of (Build arcs base nodes layout) = list_file arcs
 inputs_of (Import text base layout) = text_file text
 inputs_of (Quotient base map to classes layout) = record_files base ++ map_file map
@@ -39,7 +40,7 @@ outputs_of (Quotient from map base classes layout) = archive_outputs base
 outputs_of (Recode from base layout) = archive_outputs base
 outputs_of (Union first second output layout) = archive_outputs output
 outputs_of (Transpose from base layout) = archive_outputs base
-outputs_of (Rank base rounds damping top weights (Some certificate)) = certificate_output certificate
+outputs_of (Rank job) = certificate_outputs job.certificate
 outputs_of _ = []
 
 abbrev pub input_name : Job → Input → Option (List ℕ)

@@ -99,9 +99,10 @@ archive_outputs base =
     (output.Properties, base ++ PROPERTIES.now) ∷ (output.Graph, base ++ GRAPH.now) ∷
     (output.Offsets, base ++ OFFSETS.now) ∷ []
 
--- a certificate that is written
-abbrev pub certificate_output : List ℕ → List (Output × List ℕ)
-certificate_output name = (output.Certificate, name) ∷ []
+-- a certificate that is written, if it is asked for
+abbrev pub certificate_outputs : Option (List ℕ) → List (Output × List ℕ)
+certificate_outputs None = []
+certificate_outputs (Some name) = (output.Certificate, name) ∷ []
 
 -- the name of a job's input
 abbrev pub list_named : List ℕ → Input → Option (List ℕ)
@@ -129,7 +130,7 @@ archive_named base o = name_of_output (archive_outputs base) o
 
 -- the file of a certificate that is written
 abbrev pub certificate_to : List ℕ → Output → Option (List ℕ)
-certificate_to name o = name_of_output (certificate_output name) o
+certificate_to name o = name_of_output (certificate_outputs (Some name)) o
 
 -- what an input of these names holds
 abbrev pub held_by : (Input → Option (List ℕ)) → Files → Input → Option (List ℕ)

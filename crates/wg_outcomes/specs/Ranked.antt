@@ -18,6 +18,7 @@ use Rattle.wg_rank.specs.CertificateText.{text_of_claim}
 use Rattle.wg_rank.specs.Weights.{AreWeights, weights_of}
 use Rattle.wg_order.specs.Order.{Positions, best, worst}
 use Rattle.wg_order.specs.Surely.{IsSurely}
+use Rattle.wg_words.specs.declared.jobs.RankJob.{RankJob}
 use Rattle.wg_outcomes.specs.Judged.{weights_in}
 use Rattle.wg_outcomes.specs.Readings.{Readings}
 use Rattle.wg_outcomes.specs.declared.status.Input.{Input}
@@ -48,6 +49,10 @@ ranking_text r b top = let s = positions_of r b in rank_lines s (take top s.page
 -- the certificate of these bounds: the damping, the pages, and the lower bound of each
 abbrev pub certificate_text : Intervals → List ℕ
 certificate_text b = text_of_claim (claim_of_bounds b)
+
+-- the bounds of a ranking of this graph, by the weights that are given
+abbrev pub bounds_for : RankJob → Digraph → Option (List ℕ) → Intervals
+bounds_for job g given = bounds_after g given job.damping job.rounds
 
 -- What the bounds and positions that are printed say: they enclose every exact iterate from these rounds on and every
 -- stationary vector, within the stated width; and pages whose intervals are disjoint are in the order of their exact
@@ -85,18 +90,18 @@ HoldWeights (Some name) held n given =
 
 -- What is printed is the ranking of this graph, by these weights of its pages, and this much is proved of its bounds
 -- and positions.
-pub record PrintsRankingOf (r : Readings) (graph : Digraph) (given : Option (List ℕ)) (rounds damping top : ℕ)
+pub record PrintsRankingOf (r : Readings) (graph : Digraph) (given : Option (List ℕ)) (job : RankJob)
     (old new : List ℕ) : Type 0 where
   pub proper : IsGraph graph
   pub weights : AreWeights graph.nodes (weights_of graph.nodes given)
-  pub printed : new ≡ old ++ ranking_text r (bounds_after graph given damping rounds) top
-  pub proven : IsProvenRanking r (bounds_after graph given damping rounds) graph
+  pub printed : new ≡ old ++ ranking_text r (bounds_for job graph given) job.top
+  pub proven : IsProvenRanking r (bounds_for job graph given) graph
 
 -- What is printed is the proven ranking of the graph that the files stand for, by the weights that they hold.
-pub record PrintsProvenRanking (r : Readings) (held : Input → Option (List ℕ)) (weights : Option (List ℕ))
-    (rounds damping top : ℕ) (old new : List ℕ) : Type 0 where
+pub record PrintsProvenRanking (r : Readings) (held : Input → Option (List ℕ)) (job : RankJob)
+    (old new : List ℕ) : Type 0 where
   pub graph : Digraph
   pub given : Option (List ℕ)
   pub stored : HoldGraph r held graph
-  pub weighed : HoldWeights weights held graph.nodes given
-  pub ranked : PrintsRankingOf r graph given rounds damping top old new
+  pub weighed : HoldWeights job.weights held graph.nodes given
+  pub ranked : PrintsRankingOf r graph given job old new

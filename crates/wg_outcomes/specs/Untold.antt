@@ -7,6 +7,7 @@ use Rattle.wg_graph.specs.Digraph.{Digraph}
 use Rattle.wg_rank.specs.Claims.{Claim}
 use Rattle.wg_words.specs.declared.jobs.Job.{Job}
 use Rattle.wg_words.specs.declared.jobs.Job.TheVariants.{Bulk, Rank, Verify}
+use Rattle.wg_words.specs.declared.jobs.RankJob.{RankJob}
 use Rattle.wg_vectors.specs.Generated.{generated}
 use Rattle.wg_outcomes.specs.Bulk.{outcome_of, outcome_text}
 use Rattle.wg_outcomes.specs.Causes.{IncreasedAt}
@@ -18,10 +19,10 @@ use Rattle.wg_outcomes.specs.declared.status.Status.TheVariants.{Done, Memory}
 
 -- What is printed is the ranking of some graph, by some weights of its pages, or by none if no file of weights is
 -- named.
-abbrev pub PrintsSomeRanking : Readings → Option (List ℕ) → ℕ → ℕ → ℕ → List ℕ → List ℕ → Type 0
-PrintsSomeRanking r weights rounds damping top old new =
-    (graph : Digraph) × (given : Option (List ℕ)) × (weights ≡ None → given ≡ None)
-    × PrintsRankingOf r graph given rounds damping top old new
+abbrev pub PrintsSomeRanking : Readings → RankJob → List ℕ → List ℕ → Type 0
+PrintsSomeRanking r job old new =
+    (graph : Digraph) × (given : Option (List ℕ)) × (job.weights ≡ None → given ≡ None)
+    × PrintsRankingOf r graph given job old new
 
 -- What is printed is what some bounds leave of 1, over some graph, by some weights of its pages, or by none if no file
 -- of weights is named.
@@ -40,11 +41,11 @@ WantsFirst d o name before after out out' status =
     ⊎ IncreasedAt (λ c. c.wants) name (d.counts before) (d.counts after)
 
 -- what `rank` promises
-pub record RanksAnywhere {D O : Type 0} (d : depot.Ghosts D) (o : sink.Ghosts O) (rounds damping top : ℕ)
-    (weights certificate : Option (List ℕ)) (before after : D) (out out' : O) (status : Status) : Type 0 where
-  pub wants : WantsFirst d o certificate before after out out' status
+pub record RanksAnywhere {D O : Type 0} (d : depot.Ghosts D) (o : sink.Ghosts O) (job : RankJob)
+    (before after : D) (out out' : O) (status : Status) : Type 0 where
+  pub wants : WantsFirst d o job.certificate before after out out' status
   pub ranking : IsTrue o.told → status ≡ Done → (r : Readings)
-      → PrintsSomeRanking r weights rounds damping top (o.taken out) (o.taken out')
+      → PrintsSomeRanking r job (o.taken out) (o.taken out')
 
 -- what `verify` promises
 abbrev pub VerifiesAnywhere : {O : Type 0} → sink.Ghosts O → Option (List ℕ) → O → O → Status → Type 0
@@ -58,9 +59,7 @@ GeneratesAnywhere o seed pages out out' status = IsTrue o.told → status ≡ Do
 
 -- what a job promises of every depot, beside the rest
 abbrev pub DoesAnywhere : {D O : Type 0} → depot.Ghosts D → sink.Ghosts O → Job → D → D → O → O → Status → Type 0
-DoesAnywhere d o (Rank base rounds damping top weights certificate) before after out out' status =
-    RanksAnywhere d o rounds damping top weights certificate before after out out' status
-DoesAnywhere d o (Verify base certificate weights) before after out out' status =
-    VerifiesAnywhere o weights out out' status
+DoesAnywhere d o (Rank job) before after out out' status = RanksAnywhere d o job before after out out' status
+DoesAnywhere d o (Verify job) before after out out' status = VerifiesAnywhere o job.weights out out' status
 DoesAnywhere d o (Bulk seed pages) before after out out' status = GeneratesAnywhere o seed pages out out' status
 DoesAnywhere d o _ before after out out' status = Unit {0}

@@ -16,8 +16,8 @@ use Rattle.wg_outcomes.specs.Answers.{IsUnput, status_in}
 use Rattle.wg_outcomes.specs.Causes.{IncreasedAt}
 use Rattle.wg_outcomes.specs.Names.{IsOfInput}
 use Rattle.wg_outcomes.specs.Promised.{IsBadFile}
-use Rattle.wg_rank.specs.Rounds.{bounds_after}
-use Rattle.wg_outcomes.specs.Ranked.{ranking_text}
+use Rattle.wg_words.specs.declared.jobs.RankJob.{RankJob}
+use Rattle.wg_outcomes.specs.Ranked.{bounds_for, ranking_text}
 use Rattle.wg_outcomes.specs.Readings.{Readings}
 use Rattle.wg_outcomes.specs.Untold.{PrintsSomeGap, PrintsSomeRanking, RanksAnywhere}
 use Rattle.wg_outcomes.specs.Verified.{Leaves, verified_line}
@@ -73,10 +73,10 @@ all_put text old new (Err e) (inl fault) put is = absurd (let no : WriteFault Ou
 all_put text old new (Err e) (inr want) put is = absurd (let no : Memory ≡ Done = sym want ∙ is in cc)
 
 -- ---- `rank`
-module _ {D O : Type 0} (d : depot.Ghosts D) (o : sink.Ghosts O) (rounds damping top : ℕ) (weights certificate : Option (List ℕ)) (before after : D) (out : O) where
+module _ {D O : Type 0} (d : depot.Ghosts D) (o : sink.Ghosts O) (job : RankJob) (before after : D) (out : O) where
   -- it ended before anything was written
   pub ranks_none : (r : Result (Unit {0}) Ending) (e : Ending) → IsErrAnd r (λ x. x ≡ e) → d.files after ≡ d.files before → Undone e
-      → RanksAnywhere d o rounds damping top weights certificate before after out out (status_in r)
+      → RanksAnywhere d o job before after out out (status_in r)
   ranks_none r e is same none = record {
     wants = λ want. inl (same, refl);
     ranking = λ told done. absurd (undone r e is none done);
@@ -90,18 +90,18 @@ wants_since name certificate is a b c later (inr rose) =
     inr (subst (λ (n : Option (List ℕ)). IncreasedAt (λ k. k.wants) n a c) (sym is) (rose_late (λ k. k.wants) (Some name) a b c later.wants rose))
 
 -- a ranking by the bounds of a proper graph
-pub some_ranking : (graph : Digraph) (weights given : Option (List ℕ)) → (weights ≡ None → given ≡ None) → (rounds damping top : ℕ) (b : Intervals) (old new : List ℕ) (r : Readings) → rounds ≤ MOST_ROUNDS → damping ≤ MOST_DAMPING → IsGraph graph
-    → graph.nodes ≤ MOST_PAGES → AreWeights graph.nodes (weights_of graph.nodes given) → b ≡ bounds_after graph given damping rounds → new ≡ old ++ ranking_text r b top
-    → PrintsSomeRanking r weights rounds damping top old new
-some_ranking graph weights given alike rounds damping top b old new r few damped proper small heavy is put = (
+pub some_ranking : (graph : Digraph) (job : RankJob) (given : Option (List ℕ)) → (job.weights ≡ None → given ≡ None) → (b : Intervals) (old new : List ℕ) (r : Readings) → job.rounds ≤ MOST_ROUNDS → job.damping ≤ MOST_DAMPING → IsGraph graph
+    → graph.nodes ≤ MOST_PAGES → AreWeights graph.nodes (weights_of graph.nodes given) → b ≡ bounds_for job graph given → new ≡ old ++ ranking_text r b job.top
+    → PrintsSomeRanking r job old new
+some_ranking graph job given alike b old new r few damped proper small heavy is put = (
   graph,
   given,
   alike,
   record {
     proper = proper;
     weights = heavy;
-    printed = put ∙ ap (λ (x : Intervals). old ++ ranking_text r x top) is;
-    proven = proven r rounds damping few damped graph proper small given heavy;
+    printed = put ∙ ap (λ (x : Intervals). old ++ ranking_text r x job.top) is;
+    proven = proven r job.rounds job.damping few damped graph proper small given heavy;
   },
 )
 

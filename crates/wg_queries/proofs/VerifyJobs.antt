@@ -1,5 +1,5 @@
 -- How each step of `verify` leads on or ends it.
-use Rattle.std.proofs.Common.{◌≡◌, ◌⊎◌, ℕ, Bool, List, [], ◌∷◌, Option, Some, None, Result, Ok, Err, refl}
+use Rattle.std.proofs.Common.{◌≡◌, ◌⊎◌, ℕ, Bool, List, [], ◌∷◌, ◌++◌, is_some, Option, Some, None, Result, Ok, Err, refl}
 use Rattle.std.specs.Bool.{IsTrue}
 use Rattle.std.specs.Result.{IfErr}
 use Rattle.wg_outside.specs.Outside.{Files, Counts, Increased}
@@ -8,19 +8,18 @@ use Rattle.wg_outside.specs.declared.output.Output.TheVariants.{Out}
 use Rattle.wg_params.specs.Parameters.{Parameters}
 use Rattle.wg_graph.specs.Digraph.{Digraph}
 use Rattle.wg_rank.specs.Claims.{Claim}
-use Rattle.wg_words.specs.declared.jobs.Job.{Job}
+use Rattle.wg_words.specs.declared.jobs.VerifyJob.{VerifyJob}
 use Rattle.wg_words.specs.declared.jobs.Job.TheVariants.{Verify}
 use Rattle.wg_outcomes.specs.Answers.{IsUnput, Steps, status_in}
 use Rattle.wg_outcomes.specs.Judged.{Judged, accepted, claim_then}
 use Rattle.wg_readings.specs.Loading.{IsBadCertificate, LoadsCertificate, LoadsGraph, LoadsParams, LoadsWeights}
-use Rattle.wg_outcomes.specs.Names.{certificate_named, weights_named}
+use Rattle.wg_outcomes.specs.Names.{certificate_file, certificate_named, name_of_input, record_files, weights_file, weights_named}
 use Rattle.wg_outcomes.specs.Promised.{promised_in}
 use Rattle.wg_outcomes.specs.Readings.{Readings}
 use Rattle.wg_outcomes.specs.declared.ending.Ending.{Ending}
 use Rattle.wg_outcomes.specs.declared.status.Input.{Input}
 use Rattle.wg_outcomes.specs.declared.status.Input.TheVariants.{Properties, Graph, Weights, Certificate}
 use Rattle.wg_outcomes.specs.declared.status.Status.TheVariants.{Memory, WriteFault}
-use Rattle.wg_outcomes.specs.JobFiles.{has_input, input_name}
 use Rattle.wg_outcomes.specs.Performs.{OutCounts, Outside, Performs, outside}
 use Rattle.wg_outcomes.specs.Verified.{verified_line, with_gap}
 use Rattle.wg_readings.proofs.JobSteps.{ComesTo, prints}
@@ -29,15 +28,18 @@ use Rattle.wg_readings.proofs.GraphJobs.{IsOfGraph, behind_graph}
 use Rattle.wg_readings.proofs.GraphJobs as graphs
 
 module _ (base certificate : List ℕ) where
-  pub weights_are : (given : Option (List ℕ)) → input_name (Verify base certificate given) Weights ≡ weights_named given Weights
+  abbrev files : Option (List ℕ) → List (Input × List ℕ)
+  files given = record_files base ++ weights_file given ++ certificate_file certificate
+
+  weights_are : (given : Option (List ℕ)) → name_of_input (files given) Weights ≡ weights_named given Weights
   weights_are None = refl
   weights_are (Some name) = refl
 
-  pub certificate_is : (given : Option (List ℕ)) → input_name (Verify base certificate given) Certificate ≡ certificate_named certificate Certificate
+  certificate_is : (given : Option (List ℕ)) → name_of_input (files given) Certificate ≡ certificate_named certificate Certificate
   certificate_is None = refl
   certificate_is (Some name) = refl
 
-  pub has_certificate : (given : Option (List ℕ)) → IsTrue (has_input (Verify base certificate given) Certificate)
+  has_certificate : (given : Option (List ℕ)) → IsTrue (is_some (name_of_input (files given) Certificate))
   has_certificate None = refl
   has_certificate (Some name) = refl
 
@@ -48,48 +50,52 @@ behind_claim g ws c r h = with_gap g c ws (λ left. accepted (verified_line c le
 abbrev pub behind_weights : Parameters → Digraph → Option (List ℕ) → Readings → (Input → Option (List ℕ)) → Judged
 behind_weights p g ws r h = claim_then g.nodes (h Certificate) (λ c. behind_claim g ws c r h)
 
-pub of_graph : (base certificate : List ℕ) (given : Option (List ℕ)) → IsOfGraph (Verify base certificate given) base (behind_graph given behind_weights)
-of_graph base certificate given = record { text_named = refl; graph_named = refl; judges = λ r h. refl }
+pub of_graph : (job : VerifyJob) → IsOfGraph (Verify job) job.base (behind_graph job.weights behind_weights)
+of_graph job = record { text_named = refl; graph_named = refl; judges = λ r h. refl }
 
-module _ (base certificate : List ℕ) (given : Option (List ℕ)) (td to : Bool) (before : Outside) where
-  abbrev job : Job
-  job = Verify base certificate given
+module _ (job : VerifyJob) (td to : Bool) (before : Outside) where
+  module _ (p : Parameters) (files : Files) (counts : List ℕ → Counts) (l : LoadsParams job.base td before.files files before.counts counts (Ok p))
+      (files1 : Files) (counts1 : List ℕ → Counts) (graph : Digraph) (g : LoadsGraph job.base p td files files1 counts counts1 (Ok graph)) where
+    pub no_weights : (after : Outside) (e : Ending) → after.taken ≡ before.taken → LoadsWeights job.weights graph.nodes td files1 after.files counts1 after.counts (Err e)
+        → Performs (Verify job) td to before after e.status e.promised
+    no_weights =
+        graphs.no_weights (Verify job) job.base job.weights behind_weights (of_graph job) (weights_are job.base job.certificate job.weights) td to before p files counts l files1 counts1 graph g
 
-  module _ (p : Parameters) (files : Files) (counts : List ℕ → Counts) (l : LoadsParams base td before.files files before.counts counts (Ok p))
-      (files1 : Files) (counts1 : List ℕ → Counts) (graph : Digraph) (g : LoadsGraph base p td files files1 counts counts1 (Ok graph)) where
-    pub no_weights : (after : Outside) (e : Ending) → after.taken ≡ before.taken → LoadsWeights given graph.nodes td files1 after.files counts1 after.counts (Err e)
-        → Performs job td to before after e.status e.promised
-    no_weights = graphs.no_weights job base given behind_weights (of_graph base certificate given) (weights_are base certificate given) td to before p files counts l files1 counts1 graph g
+    module _ (files2 : Files) (counts2 : List ℕ → Counts) (ws : Option (List ℕ)) (w : LoadsWeights job.weights graph.nodes td files1 files2 counts1 counts2 (Ok ws)) where
+      come : ComesTo (Verify job) p td before files2 counts2 (Weights ∷ Graph ∷ Properties ∷ []) (λ r h. claim_then graph.nodes (h Certificate) (λ c. behind_claim graph ws c r h))
+      come =
+          graphs.has_weights (Verify job) job.base job.weights behind_weights (of_graph job) (weights_are job.base job.certificate job.weights) td to before p files counts l files1 counts1 graph
+          g files2 counts2 ws w
 
-    module _ (files2 : Files) (counts2 : List ℕ → Counts) (ws : Option (List ℕ)) (w : LoadsWeights given graph.nodes td files1 files2 counts1 counts2 (Ok ws)) where
-      come : ComesTo job p td before files2 counts2 (Weights ∷ Graph ∷ Properties ∷ []) (λ r h. claim_then graph.nodes (h Certificate) (λ c. behind_claim graph ws c r h))
-      come = graphs.has_weights job base given behind_weights (of_graph base certificate given) (weights_are base certificate given) td to before p files counts l files1 counts1 graph g files2 counts2 ws w
-
-      pub no_claim : (after : Outside) (e : Ending) → after.taken ≡ before.taken → LoadsCertificate certificate graph.nodes td files2 after.files counts2 after.counts (Err e)
-          → Performs job td to before after e.status e.promised
+      pub no_claim : (after : Outside) (e : Ending) → after.taken ≡ before.taken → LoadsCertificate job.certificate graph.nodes td files2 after.files counts2 after.counts (Err e)
+          → Performs (Verify job) td to before after e.status e.promised
       no_claim after e silent c =
-          ends_named job base td to before p files2 counts2 (Weights ∷ Graph ∷ Properties ∷ []) Certificate (certificate_named certificate) (certificate_is base certificate given) IsBadCertificate
-          (claim_then graph.nodes) (λ x r h. behind_claim graph ws x r h) come (λ h holds. holds) (λ n. refl) (certificate_refused job p (has_certificate base certificate given))
-          (has_certificate base certificate given) after e silent c.reads
+          ends_named (Verify job) job.base td to before p files2 counts2 (Weights ∷ Graph ∷ Properties ∷ []) Certificate (certificate_named job.certificate)
+          (certificate_is job.base job.certificate job.weights) IsBadCertificate
+          (claim_then graph.nodes) (λ x r h. behind_claim graph ws x r h) come (λ h holds. holds) (λ n. refl)
+          (certificate_refused (Verify job) p (has_certificate job.base job.certificate job.weights))
+          (has_certificate job.base job.certificate job.weights) after e silent c.reads
 
-      module _ (files3 : Files) (counts3 : List ℕ → Counts) (claim : Claim) (c : LoadsCertificate certificate graph.nodes td files2 files3 counts2 counts3 (Ok claim)) where
-        come_to_claim : ComesTo job p td before files3 counts3 (Certificate ∷ Weights ∷ Graph ∷ Properties ∷ []) (behind_claim graph ws claim)
+      module _ (files3 : Files) (counts3 : List ℕ → Counts) (claim : Claim) (c : LoadsCertificate job.certificate graph.nodes td files2 files3 counts2 counts3 (Ok claim)) where
+        come_to_claim : ComesTo (Verify job) p td before files3 counts3 (Certificate ∷ Weights ∷ Graph ∷ Properties ∷ []) (behind_claim graph ws claim)
         come_to_claim =
-            comes_on_named job base td to before p files2 counts2 (Weights ∷ Graph ∷ Properties ∷ []) Certificate (certificate_named certificate) (certificate_is base certificate given) IsBadCertificate
+            comes_on_named (Verify job) job.base td to before p files2 counts2 (Weights ∷ Graph ∷ Properties ∷ []) Certificate (certificate_named job.certificate)
+            (certificate_is job.base job.certificate job.weights) IsBadCertificate
             (claim_then graph.nodes) (λ x r h. behind_claim graph ws x r h) come files3 counts3 claim c.reads
 
         -- the claim does not hold
         pub no_gap : (taken : List ℕ) (out : OutCounts) (e : Ending) → taken ≡ before.taken → (e.status ≡ Memory) ⊎ IsBadCertificate e
-            → Steps {B = ℕ} (with_gap graph claim ws) (Err e) → Performs job td to before (outside files3 counts3 taken out) e.status e.promised
+            → Steps {B = ℕ} (with_gap graph claim ws) (Err e) → Performs (Verify job) td to before (outside files3 counts3 taken out) e.status e.promised
         no_gap taken out e silent only steps =
-            refuses_own job base td to before p files3 counts3 (Certificate ∷ Weights ∷ Graph ∷ Properties ∷ []) IsBadCertificate (certificate_refused job p (has_certificate base certificate given))
+            refuses_own (Verify job) job.base td to before p files3 counts3 (Certificate ∷ Weights ∷ Graph ∷ Properties ∷ []) IsBadCertificate
+            (certificate_refused (Verify job) p (has_certificate job.base job.certificate job.weights))
             (behind_claim graph ws claim) come_to_claim taken out e silent only (λ t r. steps (λ left. accepted (verified_line claim left)))
 
         -- it does
         pub verifies : (left : ℕ) → Steps {B = ℕ} (with_gap graph claim ws) (Ok left) → (taken : List ℕ) (out : OutCounts) (r : Result (Unit {0}) Ending)
             → (IsTrue to → Puts (verified_line claim left) before.taken taken r) → IfErr r (λ e. IsUnput e.status)
             → (status_in r ≡ WriteFault Out → Increased before.out.faults out.faults) → (status_in r ≡ Memory → Increased before.out.wants out.wants)
-            → Performs job td to before (outside files3 counts3 taken out) (status_in r) (promised_in r)
+            → Performs (Verify job) td to before (outside files3 counts3 taken out) (status_in r) (promised_in r)
         verifies left steps taken out r puts only rose wanted =
-            prints job base td to before p files3 counts3 (Certificate ∷ Weights ∷ Graph ∷ Properties ∷ []) (behind_claim graph ws claim) come_to_claim
+            prints (Verify job) job.base td to before p files3 counts3 (Certificate ∷ Weights ∷ Graph ∷ Properties ∷ []) (behind_claim graph ws claim) come_to_claim
             (λ q. verified_line claim left) (λ q. steps (λ x. accepted (verified_line claim x))) refl taken out r (λ o q. puts o) only rose (λ apart. wanted)

@@ -21,15 +21,7 @@ use wg_outcomes::{Ending, Input};
 use wg_outside::{Depot, Sink};
 use wg_rank::{Bounds, bounds_by_rounds, pulled_for, room_for};
 use wg_readings::{lists_of_records, load, load_params, load_weights};
-use wg_words::Name;
-
-/// How many rounds are done, at which damping in thousandths, and how many pages are printed.
-#[derive(Clone, Copy, Debug)]
-pub struct Asked {
-    pub rounds: u64,
-    pub damping: u64,
-    pub top: u64,
-}
+use wg_words::{Name, RankJob};
 
 /// Prints the first pages of the ranking, with their bounds and positions, with teleport by the weights that are named
 /// or to each page alike. If a certificate is named, the lower bounds are written to it before anything is printed. It
@@ -39,32 +31,27 @@ pub struct Asked {
 /// these fit 192 bytes a page and memory suffices; else each round decodes all lists again.
 pub fn rank<D: Depot, O: Sink>(
     alloc: Global,
-    base: &Name,
-    asked: Asked,
-    weights: &Option<Name>,
-    certificate: &Option<Name>,
+    job: &RankJob,
     depot: &mut D,
     out: &mut O,
 ) -> Result<(), Ending>
-    requires rounds { asked.rounds ≤ MOST_ROUNDS }
-    requires damping { asked.damping ≤ MOST_DAMPING }
-    ensures does { DoesOrEnds ⟦<D as Depot>⟧ ⟦<O as Sink>⟧
-        (Rank base.now asked.rounds asked.damping asked.top weights.now certificate.now)
+    requires rounds { job.now.rounds ≤ MOST_ROUNDS }
+    requires damping { job.now.damping ≤ MOST_DAMPING }
+    ensures does { DoesOrEnds ⟦<D as Depot>⟧ ⟦<O as Sink>⟧ (Rank job.now)
         depot.old depot.new out.old out.new result }
-    ensures anywhere { RanksAnywhere ⟦<D as Depot>⟧ ⟦<O as Sink>⟧
-        asked.rounds asked.damping asked.top weights.now certificate.now
+    ensures anywhere { RanksAnywhere ⟦<D as Depot>⟧ ⟦<O as Sink>⟧ job.now
         depot.old depot.new out.old out.new (status_in result) }
 {
-    let params = load_params(alloc, depot, base)?;
-    let bytes = load(alloc, depot, base, Input::Graph)?;
+    let params = load_params(alloc, depot, &job.base)?;
+    let bytes = load(alloc, depot, &job.base, Input::Graph)?;
     let mut lists = lists_of_records(alloc, &params, bytes.as_slice())?;
-    let given = load_weights(alloc, lists.nodes(), depot, weights)?;
-    let first = room_for(alloc, &lists, given, asked.damping)?;
+    let given = load_weights(alloc, lists.nodes(), depot, &job.weights)?;
+    let first = room_for(alloc, &lists, given, job.damping)?;
     let pulled = pulled_for(alloc, &mut lists);
-    let bounds = bounds_by_rounds(pulled, first, &mut lists, asked.rounds);
-    match certificate {
-        None => print_ranks(out, bounds, asked.top),
-        Some(name) => certify(bounds, name, asked.top, depot, out),
+    let bounds = bounds_by_rounds(pulled, first, &mut lists, job.rounds);
+    match &job.certificate {
+        None => print_ranks(out, bounds, job.top),
+        Some(name) => certify(bounds, name, job.top, depot, out),
     }
 }
 

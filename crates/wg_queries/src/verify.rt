@@ -17,7 +17,7 @@ use wg_outcomes::{Ending, Input, Status};
 use wg_outside::{Depot, Sink};
 use wg_rank::{CertFault, Certificate, JudgeError, judge};
 use wg_readings::{lists_of_records, load, load_certificate, load_params, load_weights};
-use wg_words::Name;
+use wg_words::VerifyJob;
 
 /// Validates the graph of an archive, and checks whether one round of PageRank on it lowers no bound of a certificate,
 /// with teleport by the weights that are named or to each page alike; then it prints what the bounds leave of 1. It
@@ -26,22 +26,20 @@ use wg_words::Name;
 /// more with weights.
 pub fn verify<D: Depot, O: Sink>(
     alloc: Global,
-    base: &Name,
-    certificate: &Name,
-    weights: &Option<Name>,
+    job: &VerifyJob,
     depot: &mut D,
     out: &mut O,
 ) -> Result<(), Ending>
-    ensures does { DoesOrEnds ⟦<D as Depot>⟧ ⟦<O as Sink>⟧ (Verify base.now certificate.now weights.now)
+    ensures does { DoesOrEnds ⟦<D as Depot>⟧ ⟦<O as Sink>⟧ (Verify job.now)
         depot.old depot.new out.old out.new result }
-    ensures anywhere { VerifiesAnywhere ⟦<O as Sink>⟧ weights.now out.old out.new (status_in result) }
+    ensures anywhere { VerifiesAnywhere ⟦<O as Sink>⟧ job.now.weights out.old out.new (status_in result) }
 {
-    let params = load_params(alloc, depot, base)?;
-    let bytes = load(alloc, depot, base, Input::Graph)?;
+    let params = load_params(alloc, depot, &job.base)?;
+    let bytes = load(alloc, depot, &job.base, Input::Graph)?;
     let mut lists = lists_of_records(alloc, &params, bytes.as_slice())?;
     let pages = lists.nodes();
-    let weighed = load_weights(alloc, pages, depot, weights)?;
-    let claimed = load_certificate(alloc, pages, depot, certificate)?;
+    let weighed = load_weights(alloc, pages, depot, &job.weights)?;
+    let claimed = load_certificate(alloc, pages, depot, &job.certificate)?;
     let left = judge_bounds(alloc, &claimed, &weighed, &mut lists)?;
     print_verified(out, &claimed, left)
 }

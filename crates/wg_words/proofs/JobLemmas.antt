@@ -9,11 +9,11 @@ use Rattle.wg_params.specs.declared.limits.TheConstants.{MOST_PAGES, MOST_DAMPIN
 use Rattle.wg_words.specs.Asked.{IsAsked}
 use Rattle.wg_words.specs.Files.{is_file_of, overwrites, IsNoFileOf, KeepsInputs, ShareNoFile}
 use Rattle.wg_words.specs.Values.{name_in, number_up_to, numbers_in, optional_name_in, unlimited_in}
-use Rattle.wg_words.specs.Jobs.{show_on, spot_on, rank_from, rank_with, rank_on, verify_on, build_from, build_on, import_from, import_on, conversion_from, conversion_of, conversion_in, quotient_by, quotient_on, quotient_in, recoding, union_with, union_of, union_in, transposing, bulk_in, job_on, job_on_base, job_from, job_of, IsConversion, IsWithin}
+use Rattle.wg_words.specs.Jobs.{show_on, spot_on, rank_from, rank_with, rank_on, verifying, verify_on, build_from, build_on, import_from, import_on, conversion_from, conversion_of, conversion_in, quotient_by, quotient_on, quotient_in, recoding, union_with, union_of, union_in, transposing, bulk_in, job_on, job_on_base, job_from, job_of, IsConversion, IsWithin}
 use Rattle.wg_words.specs.declared.conversion.Conversion.{Conversion}
 use Rattle.wg_words.specs.declared.defaults.TheConstants.{DEFAULT_DAMPING, DEFAULT_ROUNDS, DEFAULT_TOP}
 use Rattle.wg_words.specs.declared.jobs.Job.{Job}
-use Rattle.wg_words.specs.declared.jobs.Job.TheVariants.{Check, Arcs, Ascii, Offsets, Show, Spot, Rank, Verify, Build, Import, Quotient, Union, Bulk}
+use Rattle.wg_words.specs.declared.jobs.Job.TheVariants.{Check, Arcs, Ascii, Offsets, Show, Spot, Rank, Build, Import, Quotient, Union, Bulk}
 use Rattle.wg_words.specs.declared.jobs.JobError.{JobError}
 use Rattle.wg_words.specs.declared.jobs.JobError.TheVariants.{Usage}
 use Rattle.wg_words.proofs.FileLemmas.{no_file, keeps_inputs, no_file_shared_unless}
@@ -43,7 +43,7 @@ rank_from_within rows base weights certificate job apart is =
     option_and_then_some _ _ job is (λ rounds is_rounds then_rounds.
     option_and_then_some _ _ job then_rounds (λ damping is_damping then_damping.
     option_and_then_some _ _ job then_damping (λ top is_top job_is.
-    subst IsWithin (same_Some (Rank base rounds damping top weights certificate) job job_is) (
+    subst IsWithin (same_Some (Rank (record { base = base; rounds = rounds; damping = damping; top = top; weights = weights; certificate = certificate })) job job_is) (
       number_within DEFAULT_ROUNDS MOST_ROUNDS (first_of (codes "rounds") rows) rounds (omega arith) is_rounds,
       number_within DEFAULT_DAMPING MOST_DAMPING (first_of (codes "damping") rows) damping (omega arith) is_damping,
       number_within DEFAULT_TOP MOST_PAGES (first_of (codes "top") rows) top (omega arith) is_top,
@@ -62,11 +62,11 @@ rank_on_within rows base job is =
 verify_on_within : (rows : List Row) (base : Text) (job : Job) → verify_on rows base ≡ Some job → IsWithin job
 verify_on_within rows base job is =
     let given = optional_name_in rows (codes "weights") in
-    option_and_then_some (λ (certificate : Text). option_map (Verify base certificate) given) (name_in rows (codes "certificate")) job is (λ certificate _ then_weights. made certificate given then_weights)
+    option_and_then_some (λ (certificate : Text). option_map (verifying base certificate) given) (name_in rows (codes "certificate")) job is (λ certificate _ then_weights. made certificate given then_weights)
   where
-    made : (certificate : Text) (o : Option (Option Text)) → option_map (Verify base certificate) o ≡ Some job → IsWithin job
+    made : (certificate : Text) (o : Option (Option Text)) → option_map (verifying base certificate) o ≡ Some job → IsWithin job
     made certificate None none = absurd (none-some job none)
-    made certificate (Some weights) some = subst IsWithin (same_Some (Verify base certificate weights) job some) tt
+    made certificate (Some weights) some = subst IsWithin (same_Some (verifying base certificate weights) job some) tt
 
 build_from_within : (rows : List Row) (base arcs : Text) (job : Job) → IsNoFileOf base arcs → build_from rows base arcs ≡ Some job → IsWithin job
 build_from_within rows base arcs job apart is =
@@ -189,10 +189,6 @@ asked_within words wanted answer h h2 = grind (arith, job_within)
 -- if the answer is that there is none, there is none
 pub asked_none : (words : List Text) (wanted : Option Job) (answer : Result Job JobError) → wanted ≡ job_of words → IsAsked wanted answer → answer ≡ Err Usage → job_of words ≡ None
 asked_none words wanted answer is asked usage = sym is ∙ subst (IsAsked wanted) usage asked
-
--- what a caller knows of the numbers and the files of a ranking
-pub rank_within : (words : List Text) (base : Text) (rounds damping top : ℕ) (weights certificate : Option Text) → job_of words ≡ Some (Rank base rounds damping top weights certificate) → (rounds ≤ MOST_ROUNDS) × (damping ≤ MOST_DAMPING) × (top ≤ MOST_PAGES) × KeepsInputs base weights certificate
-rank_within words base rounds damping top weights certificate is = job_within words (Rank base rounds damping top weights certificate) is
 
 -- what a caller knows of a generated graph
 pub bulk_within : (words : List Text) (seed pages : ℕ) → job_of words ≡ Some (Bulk seed pages) → pages ≤ MOST_GENERATED

@@ -27,7 +27,8 @@ abbrev pub rank_from : List Row → Text → Option Text → Option Text → Opt
 rank_from rows base weights certificate =
     option_and_then (λ rounds.
     option_and_then (λ damping.
-    option_and_then (λ top. Some (Rank base rounds damping top weights certificate))
+    option_and_then (λ top. Some (Rank (record
+    { base = base; rounds = rounds; damping = damping; top = top; weights = weights; certificate = certificate })))
     (number_in rows (codes "top") DEFAULT_TOP MOST_PAGES))
     (number_in rows (codes "damping") DEFAULT_DAMPING MOST_DAMPING))
     (number_in rows (codes "rounds") DEFAULT_ROUNDS MOST_ROUNDS)
@@ -44,10 +45,14 @@ rank_on rows base =
     (optional_name_in rows (codes "certificate")))
     (optional_name_in rows (codes "weights"))
 
+-- the job that these names give
+abbrev pub verifying : Text → Text → Option Text → Job
+verifying base certificate weights = Verify (record { base = base; certificate = certificate; weights = weights })
+
 -- the verification of a certificate against an archive, with weights if the option names them
 abbrev pub verify_on : List Row → Text → Option Job
 verify_on rows base =
-    option_and_then (λ certificate. option_map (Verify base certificate) (optional_name_in rows (codes "weights")))
+    option_and_then (λ certificate. option_map (verifying base certificate) (optional_name_in rows (codes "weights")))
     (name_in rows (codes "certificate"))
 
 -- the building of an archive from a file, with the pages and the layout that the options give
@@ -172,8 +177,8 @@ IsConversion input output layout = IsWithinLimits (params_of layout 0 0) × Shar
 
 -- the numbers and the codes of a job are within their limits, and no job reads a file that it writes
 abbrev pub IsWithin : Job → Type 0
-IsWithin (Rank base rounds damping top weights certificate) =
-    (rounds ≤ MOST_ROUNDS) × (damping ≤ MOST_DAMPING) × (top ≤ MOST_PAGES) × KeepsInputs base weights certificate
+IsWithin (Rank job) = (job.rounds ≤ MOST_ROUNDS) × (job.damping ≤ MOST_DAMPING) × (job.top ≤ MOST_PAGES)
+    × KeepsInputs job.base job.weights job.certificate
 IsWithin (Build arcs base nodes layout) = (nodes ≤ MOST_PAGES) × IsWithinLimits (params_of layout nodes 0)
     × IsNoFileOf base arcs
 IsWithin (Import text base layout) = IsWithinLimits (params_of layout 0 0) × IsNoFileOf base text

@@ -12,7 +12,7 @@ use crate::defaults::{DEFAULT_DAMPING, DEFAULT_ROUNDS, DEFAULT_TOP};
 use crate::files::{is_file_of, overwrites};
 use crate::options::layout_at;
 use crate::values::{name_at, number_at, numbers_at, optional_name_at, required_at, unlimited_at};
-use crate::{Job, JobError, Name, Words};
+use crate::{Job, JobError, Name, RankJob, VerifyJob, Words};
 use clap::ArgMatches;
 use clap::error::ErrorKind;
 use std::alloc::{AllocError, Global};
@@ -264,14 +264,14 @@ fn rank_from(
     };
     let base = Name::new(alloc, base)?;
     let weights = optional(alloc, weights)?;
-    Ok(Job::Rank {
+    Ok(Job::Rank(RankJob {
         base,
         rounds,
         damping,
         top,
         weights,
         certificate: optional(alloc, certificate)?,
-    })
+    }))
 }
 
 // A copy of the name, if one is given.
@@ -295,11 +295,11 @@ fn verify_on(alloc: Global, found: &ArgMatches<'_>, base: &str) -> Result<Job, J
         return Err(JobError::Usage);
     };
     let (base, certificate) = two_names(alloc, base, certificate)?;
-    Ok(Job::Verify {
+    Ok(Job::Verify(VerifyJob {
         base,
         certificate,
         weights: optional(alloc, weights)?,
-    })
+    }))
 }
 
 // The building of an archive from an arc list that is none of its files, with the pages and the layout that the options

@@ -38,25 +38,10 @@ pub enum Job {
         base: Name,
         page: u64,
     },
-    /// `rank BASE`: bounds of each page's PageRank after so many rounds at a damping in thousandths, and the order of
-    /// the `top` best pages. The numbers are at most `wg_params::MOST_ROUNDS`, `wg_params::MOST_DAMPING` and
-    /// `wg_params::MOST_PAGES`. Teleport goes to each page alike, or by the file of weights. The lower bounds may be
-    /// written to a certificate, which is none of the files that are read.
-    Rank {
-        base: Name,
-        rounds: u64,
-        damping: u64,
-        top: u64,
-        weights: Option<Name>,
-        certificate: Option<Name>,
-    },
-    /// `verify BASE FILE`: whether the certificate in FILE bounds each page's PageRank from below, with teleport to
-    /// each page alike or by the file of weights. No file is written, so that any names may be the same.
-    Verify {
-        base: Name,
-        certificate: Name,
-        weights: Option<Name>,
-    },
+    /// `rank BASE`: bounds of each page's PageRank, and the order of the best pages.
+    Rank(RankJob),
+    /// `verify BASE FILE`: whether the certificate in FILE bounds each page's PageRank from below.
+    Verify(VerifyJob),
     /// `build ARCS BASE --nodes N`: the archive BASE of the graph with so many pages whose arcs the file ARCS lists.
     /// The pages are at most `wg_params::MOST_PAGES`, the layout is within the limits of `wg_params`, and ARCS is none
     /// of the files of BASE.
@@ -113,6 +98,31 @@ pub enum Job {
         seed: u64,
         pages: u64,
     },
+}
+
+/// A ranking of the pages of an archive.
+#[derive(Debug, Drop)]
+pub struct RankJob {
+    pub base: Name,
+    /// How many rounds are done: at most `wg_params::MOST_ROUNDS`.
+    pub rounds: u64,
+    /// In thousandths: at most `wg_params::MOST_DAMPING`.
+    pub damping: u64,
+    /// How many pages are printed: at most `wg_params::MOST_PAGES`.
+    pub top: u64,
+    /// The file by which teleport goes; without one it goes to each page alike.
+    pub weights: Option<Name>,
+    /// The file to which the lower bounds are written, which is none of the files that are read.
+    pub certificate: Option<Name>,
+}
+
+/// A validation of a certificate. No file is written, so that any names may be the same.
+#[derive(Debug, Drop)]
+pub struct VerifyJob {
+    pub base: Name,
+    pub certificate: Name,
+    /// The file by which teleport goes; without one it goes to each page alike.
+    pub weights: Option<Name>,
 }
 
 /// Why there is no job.

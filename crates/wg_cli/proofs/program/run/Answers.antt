@@ -6,16 +6,19 @@ use Rattle.wg_outcomes.specs.Answers.{Answers, HasOutput}
 use Rattle.wg_outcomes.specs.Judged.{Judged, output_of}
 use Rattle.wg_outcomes.specs.JobFiles.{held_for}
 use Rattle.wg_outcomes.specs.Performs.{Outside, Performs, judged_on, out_counts, outside}
-use Rattle.wg_outcomes.specs.declared.status.Status.TheVariants.{Memory}
+use Rattle.wg_outcomes.specs.declared.status.Status.TheVariants.{Done, Memory}
+use Rattle.wg_outcomes.specs.Readings.{Readings}
+use Rattle.std.specs.Bool.{IsTrue}
 use Rattle.wg_cli.specs.Wanted.{ArePromisedBy, some_calls_depot, some_writes_files}
 use Rattle.wg_cli.proofs.LineLemmas.{nothing_promised}
 use Rattle.wg_cli.proofs.RunLemmas.{not_begun, not_done, not_usage}
-use Rattle.wg_words.proofs.JobLemmas.{bulk_within, rank_within}
+use Rattle.wg_words.proofs.JobLemmas.{bulk_within, job_within}
 use Rattle.wg_outcomes.proofs.PerformsLemmas.{unhindered}
 use Rattle.wg_outcomes.proofs.Statuses.{IsRead, IsStop}
 use Rattle.wg_outside.proofs.FilesLemmas.{none_falls-refl}
 use Rattle.wg_cli.proofs.ProvenLemmas.{proven_ranking, when_done}
 use Rattle.wg_outcomes.proofs.SureLemmas.{proven_outcome}
+use Rattle.wg_laws.specs.Certificates.{AreStill}
 use Rattle.wg_laws.proofs.VerifiedLemmas.{proven_gap}
 use Rattle.wg_laws.proofs.WrittenLemmas.{written_accepted}
 use Rattle.wg_cli.proofs.program.run.Goals as goal
@@ -38,13 +41,13 @@ returns-in_default g c =
       silent = λ job asked apart. inr (inr refl);
       unprinted = λ job asked apart want. inl refl;
       printed_last = λ t r job asked want. inl refl;
-      certified = λ t o r base rounds damping top weights certificate asked is. not_done is;
-      ranked = λ o r base rounds damping top weights certificate asked is. not_done is;
-      wants_first = λ base rounds damping top weights certificate asked want. inl (refl, refl);
+      certified = λ t o r job asked is. not_done is;
+      ranked = λ o r job asked is. not_done is;
+      wants_first = λ job asked want. inl (refl, refl);
       sure = λ o r seed pages asked is. not_done is;
-      verified = λ t o r base certificate weights asked is. not_done is;
-      leaves = λ o base certificate weights asked is. not_done is;
-      accepts = λ t r base certificate weights asked holds. inr tt;
+      verified = λ t o r job asked is. not_done is;
+      leaves = λ o job asked is. not_done is;
+      accepts = λ t r job asked holds. inr tt;
       output = λ t o r job asked. (stop job).output t o r;
       files = λ t r job asked. (stop job).files t r;
       same = λ none. refl;
@@ -62,6 +65,10 @@ returns g c =
     let ended = c.try_job-ending.ensures in
     let files = g.D.Depot.files c.args.depot.now in
     let does = λ (job : Job) (asked : job_of c.args.words.now ≡ Some job). ended.performs job (e ∙ asked) in
+    let is_status = λ (r : Readings) (job : Job) (t : IsTrue g.D.Depot.told) (asked : job_of c.args.words.now ≡ Some job) (done : c.try_job-ending.result.status ≡ Done).
+    when_done (judged_on r job files) (subst (Answers (judged_on r job files)) done ((does job asked).answers t r)) in
+    let is_output = λ (r : Readings) (job : Job) (t : IsTrue g.D.Depot.told) (o : IsTrue g.O.Sink.told) (asked : job_of c.args.words.now ≡ Some job) (done : c.try_job-ending.result.status ≡ Done).
+    subst (HasOutput (output_of (judged_on r job files)) (g.O.Sink.taken c.args.out.now) (g.O.Sink.taken c.try_job-ending.new.out)) done ((does job asked).output t o r) in
     record {
       usage = λ is. sym e ∙ ended.usage is;
       no_job = λ none. inl (ended.no_job (e ∙ none));
@@ -76,29 +83,21 @@ returns g c =
       silent = λ job asked apart. (does job asked).silent apart;
       unprinted = λ job asked apart. (does job asked).unprinted apart;
       printed_last = λ t r job asked want. (does job asked).printed_last t r want;
-      certified = λ t o r base rounds damping top weights certificate asked done.
-          let job = Rank base rounds damping top weights certificate in
-          let within = rank_within c.args.words.now base rounds damping top weights certificate asked in
-          proven_ranking r (held_for job files) base rounds damping top weights certificate _ _ within.0 within.1
-          (when_done (judged_on r job files) (subst (Answers (judged_on r job files)) done ((does job asked).answers t r)))
-          (subst (HasOutput (output_of (judged_on r job files)) (g.O.Sink.taken c.args.out.now) (g.O.Sink.taken c.try_job-ending.new.out)) done ((does job asked).output t o r));
-      ranked = λ o r base rounds damping top weights certificate asked done.
-          (ended.anywhere (Rank base rounds damping top weights certificate) (e ∙ asked)).ranking o done r;
-      wants_first = λ base rounds damping top weights certificate asked. (ended.anywhere (Rank base rounds damping top weights certificate) (e ∙ asked)).wants;
+      certified = λ t o r job asked done.
+          let within = job_within c.args.words.now (Rank job) asked in
+          proven_ranking r (held_for (Rank job) files) job _ _ within.0 within.1 (is_status r (Rank job) t asked done) (is_output r (Rank job) t o asked done);
+      ranked = λ o r job asked done. (ended.anywhere (Rank job) (e ∙ asked)).ranking o done r;
+      wants_first = λ job asked. (ended.anywhere (Rank job) (e ∙ asked)).wants;
       sure = λ o r seed pages asked done.
           proven_outcome r seed pages _ _ (bulk_within c.args.words.now seed pages asked) (ended.anywhere (Bulk seed pages) (e ∙ asked) o done r);
-      verified = λ t o r base certificate weights asked done.
-          let job = Verify base certificate weights in
-          proven_gap r (held_for job files) base certificate weights _ _
-          (when_done (judged_on r job files) (subst (Answers (judged_on r job files)) done ((does job asked).answers t r)))
-          (subst (HasOutput (output_of (judged_on r job files)) (g.O.Sink.taken c.args.out.now) (g.O.Sink.taken c.try_job-ending.new.out)) done ((does job asked).output t o r));
-      leaves = λ o base certificate weights asked done. ended.anywhere (Verify base certificate weights) (e ∙ asked) o done;
-      accepts = λ t r base certificate weights asked holds.
-          let job = Verify base certificate weights in
-          let held = held_for job files in
-          let accepted = written_accepted r held held (record { properties = refl; graph = refl; weights = refl }) base certificate holds.rounds holds.damping holds.top weights holds.text
-          holds.out holds.few holds.damped holds.ranked holds.there in
-          subst (λ (j : Judged). Answers j c.try_job-ending.result.status) accepted.1 ((does job asked).answers t r);
+      verified = λ t o r job asked done.
+          proven_gap r (held_for (Verify job) files) job _ _ (is_status r (Verify job) t asked done) (is_output r (Verify job) t o asked done);
+      leaves = λ o job asked done. ended.anywhere (Verify job) (e ∙ asked) o done;
+      accepts = λ t r job asked holds.
+          let held = held_for (Verify job) files in
+          let still : AreStill held held = record { properties = refl; graph = refl; weights = refl } in
+          let accepted = written_accepted r held held still holds.job job holds.text holds.out holds.few holds.damped holds.weighed holds.ranked holds.there in
+          subst (λ (j : Judged). Answers j c.try_job-ending.result.status) accepted.1 ((does (Verify job) asked).answers t r);
       output = λ t o r job asked. (does job asked).output t o r;
       files = λ t r job asked. (does job asked).files t r;
       same = λ none. ended.same (ap some_writes_files e ∙ none);
