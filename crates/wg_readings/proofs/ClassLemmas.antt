@@ -1,5 +1,5 @@
 -- Classes and weights of pages, by the texts that give them.
-use Rattle.std.proofs.Common.{◌≡◌, inl, ℕ, ◌+◌, ◌<◌, length, ◌∙◌, nat_eq, nat_lt, if◌then◌else◌, Bool, true, ◌&&◌, List, [], ◌∷◌, sym, ap, subst, Result, Ok, Err}
+use Rattle.std.proofs.Common.{◌≡◌, inl, ℕ, ◌+◌, ◌<◌, length, ◌∙◌, nat_eq, nat_lt, Bool, true, ◌&&◌, List, [], ◌∷◌, sym, ap, subst, Result, Ok, Err, arith}
 use Rattle.std.specs.List.{All}
 use Rattle.std.proofs.lemmas.Bool.{lt-ltb}
 use Rattle.std.proofs.lemmas.List.Elements.{All-head, All-tail}
@@ -37,14 +37,8 @@ is_out out = subst IsHindrance (sym out) tt
 
 -- ---- the weights
 module _ (n : ℕ) (bytes : List ℕ) (next : List ℕ → Judged) where
-  unless_bad : (ws : List ℕ) (b : Bool) → numbers_of n (MOST_WEIGHT + 1) bytes ≡ Ok ws → (nat_lt 0 n && nat_eq (sum_below n (by_page ws)) 0) ≡ b
-      → with_weights n bytes next ≡ unless_bad_weights (if b then Err weights.Zero else Ok ws) next
-  unless_bad ws b read is =
-      ap (λ (r : Result (List ℕ) NumbersFault). unless_bad_weights (unless_zero n r) next) read
-      ∙ ap (λ (k : Bool). unless_bad_weights (if k then Err weights.Zero else Ok ws) next) is
-
   pub weights_zero : (ws : List ℕ) → numbers_of n (MOST_WEIGHT + 1) bytes ≡ Ok ws → (nat_lt 0 n && nat_eq (sum_below n (by_page ws)) 0) ≡ true → Answers (with_weights n bytes next) (BadWeights weights.Zero)
-  weights_zero ws read none = inl (sym (ap status_of (unless_bad ws true read none)))
+  weights_zero ws read none = grind arith
 
   pub weights_refused : (f : NumbersFault) → numbers_of n (MOST_WEIGHT + 1) bytes ≡ Err f → Answers (with_weights n bytes next) (BadWeights (weights.Numbers f))
   weights_refused f read = inl (sym (ap status_of (ap (λ (r : Result (List ℕ) NumbersFault). unless_bad_weights (unless_zero n r) next) read)))

@@ -1,8 +1,7 @@
 -- A file that is looked for, and one of which no more is read.
-use Rattle.std.proofs.Common.{◌≡◌, ◌≢◌, inl, inr, ℕ, ◌<◌, Bool, true, false, List, [], nat_lt, length, refl, sym, ◌∙◌, ap, subst, option_and_then, Option, Some, None, Err}
+use Rattle.std.proofs.Common.{◌≡◌, ◌≢◌, ℕ, ◌<◌, Bool, true, false, List, [], length, refl, sym, ◌∙◌, ap, subst, option_and_then, Option, Some, None, Err, arith}
 use Rattle.std.specs.Bool.{IsTrue}
 use Rattle.std.specs.FinMap as map
-use Rattle.std.proofs.lemmas.Bool.{cond-true, lt-ltb}
 use Rattle.wg_outside.specs.Outside.{Files, Counts}
 use Rattle.wg_outside.specs.declared.limits.TheConstants.{MOST_BYTES}
 use Rattle.wg_outside.specs.declared.whole.LoadError.{LoadError}
@@ -11,46 +10,30 @@ use Rattle.wg_source.specs.Held.{HeldBytes, IsHeldOf}
 use Rattle.wg_source.specs.Stepping.{Steps as StepsOn, HasCause as HasReadCause}
 use Rattle.wg_outcomes.specs.Answers.{Answers}
 use Rattle.wg_outcomes.specs.Causes.{HasCause}
-use Rattle.wg_outcomes.specs.Judged.{Judged, refused, status_of, with_file}
+use Rattle.wg_outcomes.specs.Judged.{Judged, with_file}
 use Rattle.wg_outcomes.specs.Names.{IsOfInput, held_by, no_outputs}
 use Rattle.wg_outcomes.specs.declared.ending.Ending.{Ending}
 use Rattle.wg_outcomes.specs.declared.status.Input.{Input}
 use Rattle.wg_outcomes.specs.declared.status.Status.{Status}
-use Rattle.wg_outcomes.specs.declared.status.Status.TheVariants.{Memory, OverLimit}
-use Rattle.wg_outcomes.proofs.Statuses.{absent_caused, failed_caused, own_caused}
 use Rattle.wg_readings.specs.Finding.{IsOpenOn}
 use Rattle.wg_readings.specs.Loading.{Loads}
 use Rattle.wg_readings.specs.Pairing.{status_at}
 
 -- ---- an error of an input
 
--- a file that is there, its length past the limit
-file_long : (i : Input) (bytes : List ℕ) → MOST_BYTES < length bytes → (next : List ℕ → Judged) → with_file i (Some bytes) next ≡ refused (OverLimit i)
-file_long i bytes many next = cond-true (nat_lt MOST_BYTES (length bytes)) (refused (OverLimit i)) (next bytes) (lt-ltb MOST_BYTES (length bytes) many)
-
 pub of_input : (i : Input) (e : LoadError) → IsOfInput i (status_at i e)
-of_input i load.Failed = inr (inl refl)
-of_input i load.Absent = inr (inr (inl refl))
-of_input i load.TooLong = inr (inr (inr refl))
-of_input i load.Memory = inl refl
+of_input i e = grind arith
 
 pub caused_at : (told : Bool) (name : List ℕ) (files : Files) (old new : List ℕ → Counts) (h : HeldBytes) (i : Input) (e : LoadError) → HasReadCause told name files old new h e
     → (names : Input → Option (List ℕ)) → names i ≡ Some name → HasCause names no_outputs old new 0 0 (status_at i e)
-caused_at told name files old new h i load.TooLong cause names named = own_caused _ _ _ _ _ _ (OverLimit i) tt
-caused_at told name files old new h i load.Memory cause names named = own_caused _ _ _ _ _ _ Memory tt
-caused_at told name files old new h i load.Failed cause names named = failed_caused _ _ _ _ _ _ i name named (cause.failed refl)
-caused_at told name files old new h i load.Absent cause names named = absent_caused _ _ _ _ _ _ i name named (cause.absent refl)
+caused_at told name files old new h i e cause names named = grind arith
 
 by_file : (i : Input) (e : LoadError) (file : List ℕ) → e ≢ load.Absent → (e ≡ load.TooLong → MOST_BYTES < length file) → (next : List ℕ → Judged) → Answers (with_file i (Some file) next) (status_at i e)
-by_file i load.Absent file there long next = absurd (there refl)
-by_file i load.Failed file there long next = inr tt
-by_file i load.Memory file there long next = inr tt
-by_file i load.TooLong file there long next = inl (sym (ap status_of (file_long i file (long refl) next)))
+by_file i e file h h2 next = grind arith
 
 pub error_steps : (i : Input) (e : LoadError) (held : Option (List ℕ)) → (held ≡ None → e ≡ load.Absent) → ((file : List ℕ) → held ≡ Some file → (e ≢ load.Absent) × (e ≡ load.TooLong → MOST_BYTES < length file))
     → (next : List ℕ → Judged) → Answers (with_file i held next) (status_at i e)
-error_steps i e None none some next = inl (ap (λ (x : LoadError). status_at i x) (none refl))
-error_steps i e (Some file) none some next = let k = some file refl in by_file i e file k.0 k.1 next
+error_steps i e held h h2 next = grind arith
 
 -- ---- a file that is looked for
 

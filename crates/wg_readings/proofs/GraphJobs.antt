@@ -1,5 +1,5 @@
 -- A job that reads the graph of an archive whole, and then weights, if a file of them is named.
-use Rattle.std.proofs.Common.{◌≡◌, ℕ, Bool, List, [], ◌∷◌, Option, Ok, Err, refl, true, false, Some, None, is_some, ap}
+use Rattle.std.proofs.Common.{◌≡◌, ℕ, Bool, List, [], ◌∷◌, Option, Ok, Err, refl, true, false, Some, None, is_some, ap, arith}
 use Rattle.wg_outside.specs.Outside.{Files, Counts}
 use Rattle.wg_params.specs.Parameters.{Parameters}
 use Rattle.wg_graph.specs.Digraph.{Digraph}
@@ -14,7 +14,7 @@ use Rattle.wg_outcomes.specs.Readings.{Readings}
 use Rattle.wg_outcomes.specs.declared.ending.Ending.{Ending}
 use Rattle.wg_outcomes.specs.declared.status.Input.{Input}
 use Rattle.wg_outcomes.specs.declared.status.Input.TheVariants.{Properties, Graph, Weights}
-use Rattle.wg_readings.proofs.JobSteps.{ComesTo, comes_on, ends_reading, loaded, unloaded}
+use Rattle.wg_readings.proofs.JobSteps.{ComesTo, ends_reading, loaded, unloaded}
 use Rattle.std.specs.Bool.{IsTrue}
 use Rattle.wg_readings.proofs.JobSteps.{comes_on_named, ends_named, weights_refused}
 
@@ -43,9 +43,7 @@ module _ (job : Job) (base : List ℕ) (next : Parameters → Digraph → Readin
     -- both were
     pub has_graph : (files' : Files) (counts' : List ℕ → Counts) (graph : Digraph) → LoadsGraph base p td files files' counts counts' (Ok graph)
         → ComesTo job p td before files' counts' (Graph ∷ Properties ∷ []) (λ r h. next p graph r h)
-    has_graph files' counts' graph g =
-        comes_on job base td to before p files counts (Properties ∷ []) Graph is.graph_named (λ r. digraph_then r p) (λ x r h. next p x r h) come
-        files' counts' graph g.goes g.reads.same g.reads.later
+    has_graph files' counts' graph g = grind arith
 
 -- ---- weights
 

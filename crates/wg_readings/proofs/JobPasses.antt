@@ -1,5 +1,5 @@
 -- A job that validates a graph file in pieces, and reads it again to print a text of its graph.
-use Rattle.std.proofs.Common.{◌≡◌, ◌≢◌, ◌⊎◌, ◌<◌, inl, inr, ℕ, length, Bool, List, ◌++◌, take, refl, sym, ◌∙◌, subst, Option, Result, Ok, Err}
+use Rattle.std.proofs.Common.{◌≡◌, ◌≢◌, ◌⊎◌, ◌<◌, inl, inr, ℕ, length, Bool, List, ◌++◌, take, sym, ◌∙◌, subst, Option, Result, Ok, Err, arith}
 use Rattle.std.specs.Bool.{IsTrue}
 use Rattle.std.specs.Result.{IfErr}
 use Rattle.wg_outside.specs.Outside.{Files, Counts}
@@ -21,10 +21,9 @@ use Rattle.wg_outcomes.specs.declared.ending.Ending.{Ending}
 use Rattle.wg_outcomes.specs.declared.status.Input.{Input}
 use Rattle.wg_outcomes.specs.declared.status.Input.TheVariants.{Graph}
 use Rattle.wg_outcomes.specs.declared.status.Status.{Status}
-use Rattle.wg_outcomes.specs.declared.status.Status.TheVariants.{Memory, ReadFault, WriteFault}
-use Rattle.wg_readings.proofs.JobSteps.{ComesTo, bad_refuses, judges_here}
+use Rattle.wg_outcomes.specs.declared.status.Status.TheVariants.{ReadFault, WriteFault}
+use Rattle.wg_readings.proofs.JobSteps.{ComesTo, judges_here}
 use Rattle.wg_readings.proofs.PassLemmas.{graph_goes}
-use Rattle.wg_outcomes.proofs.PerformsLemmas.{unread_possible}
 use Rattle.wg_outcomes.proofs.Statuses.{IsRead, bad_unread, by_stop, own_read}
 
 -- a prefix was put out, that lacks something if the output itself failed
@@ -33,27 +32,17 @@ PutsPart due old new s = (k : ℕ) × (s ≡ WriteFault Out → k < length due) 
 
 -- what was put out if something hindered, and no file that is written
 pub hindered_output : (due old new : List ℕ) (s : Status) → IsHindrance s → ((o : Output) → o ≢ Out → s ≢ WriteFault o) → PutsPart due old new s → HasOutput due old new s
-hindered_output due old new Memory h none put = (put.0, put.2)
-hindered_output due old new (ReadFault i) h none put = (put.0, put.2)
-hindered_output due old new (WriteFault Out) h none put = (put.0, put.1 refl, put.2)
-hindered_output due old new (WriteFault o) h none put = absurd (none o (λ same. cc) refl)
-hindered_output due old new _ h none put = absurd h
+hindered_output due old new s h h2 h3 = grind arith
 
 pub hindered_promised : (held : Input → Option (List ℕ)) (s : Status) (n : ℕ) → IsHindrance s → ArePromised held s n
-hindered_promised held Memory n h = tt
-hindered_promised held (ReadFault i) n h = tt
-hindered_promised held (WriteFault o) n h = tt
-hindered_promised held _ n h = absurd h
+hindered_promised held s n h = grind arith
 
 -- a status at which a pass ends that prints
 abbrev pub StopsOrUnput : ℕ → Ending → Type 0
 StopsOrUnput n e = IsStopAt Graph n e ⊎ IsUnput e.status
 
 pub pass_possible : (job : Job) (n : ℕ) (r : Result (Unit {0}) Ending) → IsTrue (has_input job Graph) → IfErr r (StopsOrUnput n) → IsTrue (can_end job (status_in r))
-pass_possible job n (Ok done) has only = refl
-pass_possible job n (Err e) has (inl (inl only)) = unread_possible job Graph e.status has only
-pass_possible job n (Err e) has (inl (inr bad)) = (bad_refuses job Graph n e has bad).possible
-pass_possible job n (Err e) has (inr unput) = by_stop (λ s. IsTrue (can_end job s)) Out e.status unput refl refl
+pass_possible job n r h h2 = grind arith
 
 pub pass_read : (n : ℕ) (r : Result (Unit {0}) Ending) (j : Input) → IfErr r (StopsOrUnput n) → status_in r ≡ ReadFault j → Graph ≡ j
 pass_read n (Ok done) j only is = absurd (subst IsRead is tt)

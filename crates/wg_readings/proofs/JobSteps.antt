@@ -1,5 +1,5 @@
 -- How far a job on an archive has come, and how each step ends it or leads on.
-use Rattle.std.proofs.Common.{◌≡◌, ◌⊎◌, inl, inr, ℕ, Bool, false, List, [], ◌∷◌, refl, sym, ◌∙◌, ap, subst, option_and_then, is_some, Option, None, Result, Ok, Err}
+use Rattle.std.proofs.Common.{◌≡◌, ◌⊎◌, inl, inr, ℕ, Bool, false, List, [], ◌∷◌, refl, sym, ◌∙◌, ap, subst, option_and_then, is_some, Option, None, Result, Ok, Err, arith}
 use Rattle.std.specs.Bool.{IsTrue}
 use Rattle.std.specs.FinMap as map
 use Rattle.std.specs.Result.{IfErr, IsErrAnd}
@@ -11,15 +11,13 @@ use Rattle.wg_outside.specs.declared.output.Output.TheVariants.{Out}
 use Rattle.wg_outside.proofs.FilesLemmas.{none_falls-trans}
 use Rattle.wg_outside.proofs.PutsLemmas.{is_that_err}
 use Rattle.wg_params.specs.Parameters.{Parameters}
-use Rattle.wg_properties.specs.Judged.{properties_of}
 use Rattle.wg_properties.specs.declared.fault.PropFault.{PropFault}
 use Rattle.wg_graph.specs.Digraph.{Digraph}
-use Rattle.wg_grammar.specs.declared.fault.ArchiveFault.{ArchiveFault}
 use Rattle.wg_grammar.specs.declared.fault.ArchiveFault.TheVariants as archive
 use Rattle.wg_words.specs.declared.jobs.Job.{Job}
 use Rattle.wg_params.specs.declared.layout.Layout.{Layout}
 use Rattle.wg_outcomes.specs.Reached.{Reaches}
-use Rattle.wg_outcomes.specs.Answers.{Answers, IsHindrance, IsUnput, Steps, status_in, without}
+use Rattle.wg_outcomes.specs.Answers.{Answers, IsUnput, Steps, status_in, without}
 use Rattle.wg_outcomes.specs.Causes.{HasCause}
 use Rattle.wg_outcomes.specs.Commands.{builds, judged}
 use Rattle.wg_outcomes.specs.Judged.{Judged, accepted, refused}
@@ -33,13 +31,11 @@ use Rattle.wg_outcomes.specs.declared.ending.Ending.{Ending}
 use Rattle.wg_outcomes.specs.declared.status.Input.{Input}
 use Rattle.wg_outcomes.specs.declared.status.Input.TheVariants as input
 use Rattle.wg_outcomes.specs.declared.status.Status.{Status}
-use Rattle.wg_outcomes.specs.declared.status.Status.TheVariants.{Memory, WriteFault, Missing, BadArchive, BadProperties, NoPage, BadWeights}
+use Rattle.wg_outcomes.specs.declared.status.Status.TheVariants.{Memory, WriteFault, Missing, BadProperties, NoPage}
 use Rattle.wg_outcomes.proofs.BuildLemmas.{written}
 use Rattle.wg_outcomes.proofs.PerformsLemmas.{printed_by, stopped, unread}
 use Rattle.wg_outcomes.proofs.Statuses.{IsOwn, IsStop, own_caused, own_read}
 use Rattle.wg_readings.proofs.UnderWay.{cause_later}
-use Rattle.wg_outcomes.specs.declared.status.WeightsFault.{WeightsFault}
-use Rattle.wg_outcomes.specs.declared.status.WeightsFault.TheVariants.{Numbers, Zero}
 
 -- the exit of a `?`
 pub performs_exit : {B : Type 0} (job : Job) (td to : Bool) (before after : Outside) (r : Result B Ending) (e : Ending) → IsErrAnd r (λ x. x ≡ e)
@@ -49,10 +45,7 @@ performs_exit job td to before after r e is h = subst (λ x. Performs job td to 
 -- the exit of a `?` before anything is printed
 pub does_exit : {D O : Type 0} (d : depot.Ghosts D) (o : sink.Ghosts O) (job : Job) (before after : D) (out : O) (r : Result (Unit {0}) Ending) (e : Ending) → ((a : O) → o.later a a) → IsErrAnd r (λ x. x ≡ e)
     → Does d o job before after out out e.status e.promised → DoesOrEnds d o job before after out out r
-does_exit d o job before after out r e stays is h = record {
-  does = performs_exit job d.told o.told _ _ r e is h;
-  later = stays out;
-}
+does_exit d o job before after out r e stays is h = grind arith
 
 -- ---- what an ending names as promised
 
@@ -61,20 +54,11 @@ given p = Ok p
 
 -- a number of the parameters that were read is promised, for there is one properties text
 pub of_properties : (held : Option (List ℕ)) (p : Parameters) (number : Parameters → ℕ) (n : ℕ) → IsPropertiesFile held p → n ≡ number p → IsPromised held number n
-of_properties held p number n file is = λ other q here reads.
-    let same : file.text ≡ other = cc (file.is, here) in
-    let one : given p ≡ given q = sym file.gives ∙ ap properties_of same ∙ reads in
-    let equal : p ≡ q = cc in
-    is ∙ ap number equal
-
--- a fault names the arcs
-same_arcs : (held : Input → Option (List ℕ)) (p : Parameters) (n : ℕ) → IsPropertiesFile (held input.Properties) p → n ≡ p.arcs → (f : ArchiveFault) → ArePromised held (BadArchive f) n
-same_arcs held p n file is (archive.ArcsShort total) = of_properties (held input.Properties) p (λ q. q.arcs) n file is
-same_arcs held p n file is _ = tt
+of_properties held p number n file is = grind arith
 
 pub bad_promised : (held : Input → Option (List ℕ)) (p : Parameters) (i : Input) (e : Ending) → IsPropertiesFile (held input.Properties) p → IsBadFile i p.arcs e → ArePromised held e.status e.promised
 bad_promised held p i e file (inl want) = subst (λ (s : Status). ArePromised held s e.promised) (sym want) tt
-bad_promised held p i e file (inr fault) = subst (λ (s : Status). ArePromised held s e.promised) (sym fault.2) (same_arcs held p e.promised file fault.3 fault.0)
+bad_promised held p i e file (inr fault) = grind (arith, of_properties)
 
 -- ---- how a job ends
 
@@ -88,8 +72,7 @@ pub want_refuses : (job : Job) (s : Status) → s ≡ Memory → IsRefusal job s
 want_refuses job s want = subst (IsRefusal job) (sym want) (record { own = tt; stop = tt; possible = refl })
 
 pub bad_refuses : (job : Job) (i : Input) (n : ℕ) (e : Ending) → IsTrue (has_input job i) → IsBadFile i n e → IsRefusal job e.status
-bad_refuses job i n e has (inl want) = want_refuses job e.status want
-bad_refuses job i n e has (inr fault) = subst (IsRefusal job) (sym fault.2) (record { own = tt; stop = tt; possible = subst (λ (j : Input). IsTrue (has_input job j)) (sym fault.1) has })
+bad_refuses job i n e h h2 = grind arith
 
 module _ (job : Job) (td to : Bool) (before after : Outside) (e : Ending) (silent : after.taken ≡ before.taken) (same : after.files ≡ before.files) (later : NonDecreasing before.counts after.counts)
     (answers : IsTrue td → (r : Readings) → Answers (judged_on r job before.files) e.status) where
@@ -111,28 +94,14 @@ pub record AreRefusals (job : Job) (p : Parameters) (IsFault : Ending → Type 0
   pub refusal : (e : Ending) → IsFault e → IsRefusal job e.status
   pub promised : (held : Input → Option (List ℕ)) (e : Ending) → IsPropertiesFile (held input.Properties) p → IsFault e → ArePromised held e.status e.promised
 
-weights_promised : (held : Input → Option (List ℕ)) (p : Parameters) (n : ℕ) → IsPropertiesFile (held input.Properties) p → n ≡ p.nodes → (f : WeightsFault) → ArePromised held (BadWeights f) n
-weights_promised held p n file is (Numbers f) = of_properties (held input.Properties) p (λ q. q.nodes) n file is
-weights_promised held p n file is Zero = tt
-
 pub weights_refused : (job : Job) (p : Parameters) (n : ℕ) → n ≡ p.nodes → IsTrue (has_input job input.Weights) → AreRefusals job p (IsBadWeights n)
-weights_refused job p n pages has = record {
-  refusal = λ e f. subst (IsRefusal job) (sym f.1) (record { own = tt; stop = tt; possible = has });
-  promised = λ held e file f. subst (λ (s : Status). ArePromised held s e.promised) (sym f.1) (weights_promised held p e.promised file (f.2 ∙ pages) f.0);
-}
+weights_refused job p n pages has = grind (arith, of_properties)
 
 pub certificate_refused : (job : Job) (p : Parameters) → IsTrue (has_input job input.Certificate) → AreRefusals job p IsBadCertificate
-certificate_refused job p has = record {
-  refusal = λ e f. subst (IsRefusal job) (sym f.1) (record { own = tt; stop = tt; possible = has });
-  promised = λ held e file f. subst (λ (s : Status). ArePromised held s e.promised) (sym f.1) tt;
-}
+certificate_refused job p has = grind arith
 
 pub map_refused : (job : Job) (p : Parameters) (n : ℕ) → n ≡ p.nodes → IsTrue (has_input job input.Map) → AreRefusals job p (IsBadMap n)
-map_refused job p n pages has = record {
-  refusal = λ e f. subst (IsRefusal job) (sym f.1) (record { own = tt; stop = tt; possible = has });
-  promised = λ held e file f.
-      subst (λ (s : Status). ArePromised held s e.promised) (sym f.1) (of_properties (held input.Properties) p (λ q. q.nodes) e.promised file (f.2 ∙ pages));
-}
+map_refused job p n pages has = grind arith
 
 -- ---- what inputs hold
 
@@ -146,8 +115,7 @@ hold_all names files [] = tt
 hold_all names files (i ∷ read) = (refl, hold_all names files read)
 
 pub gone : (i : Input) (held : Input → Option (List ℕ)) → without i held i ≡ None
-gone input.Properties held = refl
-gone _ held = refl
+gone i held = grind arith
 
 -- A job has read these inputs, and goes on by the rest of its validation, whatever its other inputs hold. Nothing has
 -- changed.
@@ -245,8 +213,7 @@ module _ (job : Job) (base : List ℕ) (td to : Bool) (before : Outside) where
 
         -- memory ran out
         pub ends_without : e.status ≡ Memory → Performs job td to before (outside files counts taken out) e.status e.promised
-        ends_without want =
-            refuses_so (want_refuses job e.status want) (λ t. subst (λ (s : Status). ArePromised held s e.promised) (sym want) tt) (λ t r. inr (subst IsHindrance (sym want) tt))
+        ends_without want = grind (arith, want_refuses, refuses_so)
 
       pub refuses : (i : Input) → IsTrue (has_input job i) → (taken : List ℕ) (out : OutCounts) (e : Ending) → taken ≡ before.taken → IsBadFile i p.arcs e
           → (IsTrue td → (r : Readings) → Answers (rest r held) e.status) → Performs job td to before (outside files counts taken out) e.status e.promised

@@ -1,12 +1,11 @@
 -- How the validation of an archive's files ends.
 use Rattle.wg_readings.proofs.PassLemmas.{graph_goes}
 use Rattle.wg_readings.proofs.ReadingsLaws.{the_readings}
-use Rattle.wg_outcomes.proofs.Statuses.{IsOwn, own_caused}
 use Rattle.wg_outcomes.proofs.PerformsLemmas.{hindered}
 use Rattle.wg_outcomes.specs.Judged.{Judged, with_lengths, offsets_then}
 use Rattle.wg_outcomes.specs.declared.status.Status.TheVariants.{Memory}
 use Rattle.wg_grammar.specs.Archive.{Accepted}
-use Rattle.std.proofs.Common.{◌≡◌, ◌∙◌, inl, inr, ℕ, Bool, List, Option, Result, Ok, Err, refl, sym, subst}
+use Rattle.std.proofs.Common.{◌≡◌, ◌∙◌, inl, inr, ℕ, Bool, List, Option, Result, Ok, Err, refl, sym, subst, arith}
 use Rattle.std.specs.Bool.{IsTrue}
 use Rattle.std.specs.Result.{IfErr}
 use Rattle.wg_outside.specs.Outside.{Files, Counts, NonDecreasing}
@@ -33,17 +32,12 @@ pub offsets_judged : (base : List ℕ) (p : Parameters) (places : List ℕ) (td 
     → (IsTrue td → (q : Readings) → Steps {B = Unit {0}} (lengths_then q p places (held_by (file_of base) files input.Offsets)) r)
     → files' ≡ files → NonDecreasing counts counts' → JudgesOffsets base p places td files files' counts counts' r
 offsets_judged base p places td files files' counts counts' (Ok done) only cause steps same later = record { reads = record { ends = tt; same = same; later = later }; goes = steps }
-offsets_judged base p places td files files' counts counts' (Err e) only cause steps same later =
-    record { reads = record { ends = record { only = only; causes = cause; refused = steps }; same = same; later = later }; goes = steps }
+offsets_judged base p places td files files' counts counts' (Err e) only cause steps same later = grind arith
 
 -- ---- memory ran out
 pub reads_want : {A B : Type 0} (base : List ℕ) (i : Input) (n : ℕ) (step : Readings → Option (List ℕ) → (B → Judged) → Judged) (td : Bool) (files files' : Files) (counts counts' : List ℕ → Counts) (e : Ending) → e.status ≡ Memory
     → files' ≡ files → NonDecreasing counts counts' → Reads {A = A} {B = B} base i n step td files files' counts counts' (Err e)
-reads_want base i n step td files files' counts counts' e want same later = record {
-  ends = record { only = inr (inl want); causes = own_caused _ _ _ _ _ _ e.status (subst IsOwn (sym want) tt); refused = λ t r next. inr (subst IsHindrance (sym want) tt) };
-  same = same;
-  later = later;
-}
+reads_want base i n step td files files' counts counts' e want same later = grind arith
 
 module _ (base : List ℕ) (p : Parameters) (td : Bool) (files : Files) (counts : List ℕ → Counts) (e : Ending) (want : e.status ≡ Memory) where
   pub graph_unread : JudgesGraph base p td files files counts counts (Err e)
@@ -53,14 +47,7 @@ module _ (base : List ℕ) (p : Parameters) (td : Bool) (files : Files) (counts 
   offsets_unread places = record { reads = reads_want _ _ _ _ _ _ _ _ _ e want refl (none_falls-refl counts); goes = λ t r next. inr (subst IsHindrance (sym want) tt) }
 
   pub files_unread : JudgesFiles base p td files files counts counts (Err e)
-  files_unread = record {
-    steps = λ t r next. inr (subst IsHindrance (sym want) tt);
-    limits = tt;
-    only = inl (inr (inl want));
-    causes = own_caused _ _ _ _ _ _ e.status (subst IsOwn (sym want) tt);
-    same = refl;
-    later = none_falls-refl counts;
-  }
+  files_unread = grind arith
 
 -- ---- the reading of the graph file stopped
 module _ (told : Bool) (base : List ℕ) (p : Parameters) (files : Files) (counts : List ℕ → Counts) (files1 files2 : Files) (counts1 counts2 : List ℕ → Counts) (n : ℕ) (a b : Reading) (P : List Whole → Type 0)

@@ -1,5 +1,5 @@
 -- Parameters of which no key is bad are within their limits.
-use Rattle.std.proofs.Common.{◌≡◌, Bool, true, false, not, ◌&&◌, ◌||◌, ◌==◌, cond, ltb, Option, Some, None, unwrap_or, refl, arith}
+use Rattle.std.proofs.Common.{◌≡◌, Bool, true, false, not, ◌&&◌, ◌||◌, ◌==◌, cond, ltb, Option, Some, None, unwrap_or, arith}
 use Rattle.std.proofs.lemmas.Bool.{ltb-false, eqb-false}
 use Rattle.wg_params.specs.declared.key.Key.{Key}
 use Rattle.wg_params.specs.declared.limits.TheConstants.{MOST_PAGES, MOST_ARCS, MOST_WINDOW, MOST_CHAIN, MOST_INTERVAL, MOST_ZETA}
@@ -9,16 +9,13 @@ use Rattle.wg_grammar.proofs.FieldCodes.{gamma_or_delta}
 
 -- the first test of a chain does not hold, and none after it
 not_first : (b : Bool) (key : Key) (rest : Option Key) → cond b (Some key) rest ≡ None → (b ≡ false) × (rest ≡ None)
-not_first false key rest h = (refl, h)
-not_first true key rest h = absurd cc
+not_first b key rest h = grind arith
 
 neither : (a b : Bool) → (a || b) ≡ false → (a ≡ false) × (b ≡ false)
-neither false false h = (refl, refl)
-neither _ _ h = absurd cc
+neither a b h = grind arith
 
 six : (a b c d e f : Bool) → not (a && b && c && d && e && f) ≡ false → (a ≡ true) × (b ≡ true) × (c ≡ true) × (d ≡ true) × (e ≡ true) × (f ≡ true)
-six true true true true true true h = (refl, refl, refl, refl, refl, refl)
-six _ _ _ _ _ _ h = absurd cc
+six a b c d e f h = grind arith
 
 pub within_limits : (p : Parameters) → first_bad p ≡ None → IsWithinLimits p
 within_limits p none =

@@ -1,16 +1,14 @@
 -- A file that is read whole, and then validated.
-use Rattle.std.proofs.Common.{◌≡◌, ◌∙◌, ◌⊎◌, inl, inr, ℕ, Bool, List, Option, Result, Ok, Err, refl, sym, ap, subst}
+use Rattle.std.proofs.Common.{◌≡◌, ◌∙◌, ◌⊎◌, inl, inr, ℕ, Bool, List, Option, Result, Ok, Err, sym, ap, subst, arith}
 use Rattle.std.specs.Bool.{IsTrue}
 use Rattle.std.specs.Result.{IfErr, IfOk}
-use Rattle.std.proofs.lemmas.Result.{IfErr-weaker}
 use Rattle.wg_outside.specs.Outside.{Files, Counts}
 use Rattle.wg_outside.specs.declared.output.Output.{Output}
-use Rattle.wg_outside.proofs.FilesLemmas.{none_falls-refl}
 use Rattle.wg_params.specs.Parameters.{Parameters}
 use Rattle.wg_graph.specs.Digraph.{Digraph}
-use Rattle.wg_outcomes.specs.Answers.{IsHindrance, Steps, status_in}
+use Rattle.wg_outcomes.specs.Answers.{Steps, status_in}
 use Rattle.wg_outcomes.specs.Causes.{HasCause}
-use Rattle.wg_outcomes.specs.Judged.{Judged, with_digraph, with_file, with_text}
+use Rattle.wg_outcomes.specs.Judged.{Judged, with_digraph, with_file}
 use Rattle.wg_readings.specs.Loading.{Loads, LoadsGraph, LoadsText, Reads, ReadsNamed}
 use Rattle.wg_outcomes.specs.Names.{IsOfInput, file_of, held_by, text_named}
 use Rattle.wg_outcomes.specs.Promised.{IsBadFile}
@@ -18,27 +16,17 @@ use Rattle.wg_outcomes.specs.Readings.{Readings}
 use Rattle.wg_outcomes.specs.declared.ending.Ending.{Ending}
 use Rattle.wg_outcomes.specs.declared.status.Input.{Input}
 use Rattle.wg_outcomes.specs.declared.status.Input.TheVariants.{Graph, Text}
-use Rattle.wg_outcomes.specs.declared.status.Status.TheVariants.{Done, Memory}
-use Rattle.wg_outcomes.proofs.Statuses.{IsOwn, bad_own, own_caused}
+use Rattle.wg_outcomes.specs.declared.status.Status.TheVariants.{Memory}
+use Rattle.wg_outcomes.proofs.Statuses.{IsOwn, bad_own}
 use Rattle.wg_readings.proofs.ReadingsLaws.{the_readings}
-use Rattle.wg_readings.proofs.ReadingsLemmas.{steps_alike}
 
 -- memory ran out before the file was asked for
 pub loads_none : (names : Input → Option (List ℕ)) (i : Input) (td : Bool) (files : Files) (counts : List ℕ → Counts) (e : Ending) → e.status ≡ Memory → Loads names i td files files counts counts (Err e)
-loads_none names i td files counts e want = record {
-  steps = λ t next. inr (subst IsHindrance (sym want) tt);
-  held = λ t. tt;
-  causes = own_caused _ _ _ _ _ _ e.status (subst IsOwn (sym want) tt);
-  mine = inl want;
-  same = refl;
-  later = none_falls-refl counts;
-  short = tt;
-}
+loads_none names i td files counts e want = grind arith
 
 -- nothing outside is the cause of an end
 pub end_caused : {B : Type 0} (names : Input → Option (List ℕ)) (outputs : Output → Option (List ℕ)) (old new : List ℕ → Counts) (f f' : ℕ) (r : Result B Ending) → IfErr r (λ e. IsOwn e.status) → HasCause names outputs old new f f' (status_in r)
-end_caused names outputs old new f f' (Ok b) own = own_caused _ _ _ _ _ _ Done tt
-end_caused names outputs old new f f' (Err e) own = own_caused _ _ _ _ _ _ e.status own
+end_caused names outputs old new f f' r h = grind arith
 
 -- ---- a file that is validated as `inner` says
 module _ {B : Type 0} (i : Input) (names : Input → Option (List ℕ)) (IsFault : Ending → Type 0) (inner : List ℕ → (B → Judged) → Judged) (td : Bool) (files files' : Files) (counts counts' : List ℕ → Counts) where
@@ -49,13 +37,7 @@ module _ {B : Type 0} (i : Input) (names : Input → Option (List ℕ)) (IsFault
   HasRead r = ReadsNamed i names IsFault step td files files' counts counts' r
 
   pub named_unloaded : (e : Ending) → Loads names i td files files' counts counts' (Err e) → HasRead (Err e)
-  named_unloaded e l = record {
-    steps = λ t next. l.steps t (λ bytes. inner bytes next);
-    only = inl l.mine;
-    causes = l.causes;
-    same = l.same;
-    later = l.later;
-  }
+  named_unloaded e l = grind arith
 
   module _ (bytes slice : List ℕ) (is : slice ≡ bytes) (l : Loads names i td files files' counts counts' (Ok bytes)) where
     goes : IsTrue td → (next : B → Judged) → step (held_by names files i) next ≡ inner slice next
@@ -63,13 +45,7 @@ module _ {B : Type 0} (i : Input) (names : Input → Option (List ℕ)) (IsFault
 
     -- it ends the job as `IsEnd` says, if it does
     pub loaded_by : (IsEnd : Ending → Type 0) → ((e : Ending) → IsEnd e → IsOwn e.status × (IsOfInput i e.status ⊎ IsFault e)) → (r : Result B Ending) → Steps (inner slice) r → IfErr r IsEnd → HasRead r
-    loaded_by IsEnd ends r steps only = record {
-      steps = λ t. steps_alike (step (held_by names files i)) (inner slice) (goes t) r steps;
-      only = IfErr-weaker r IsEnd _ (λ e k. (ends e k).1) only;
-      causes = end_caused _ _ _ _ _ _ r (IfErr-weaker r IsEnd _ (λ e k. (ends e k).0) only);
-      same = l.same;
-      later = l.later;
-    }
+    loaded_by IsEnd ends r steps only = grind arith
 
     pub named_loaded : ((e : Ending) → IsFault e → IsOwn e.status) → (r : Result B Ending) → Steps (inner slice) r → IfErr r (λ e. (e.status ≡ Memory) ⊎ IsFault e) → HasRead r
     named_loaded own r steps only = loaded_by (λ e. (e.status ≡ Memory) ⊎ IsFault e) either r steps only
@@ -80,13 +56,7 @@ module _ {B : Type 0} (i : Input) (names : Input → Option (List ℕ)) (IsFault
 
 -- ---- an ASCIIGraph text
 pub text_unloaded : (name : List ℕ) (td : Bool) (files files' : Files) (counts counts' : List ℕ → Counts) (e : Ending) → Loads (text_named name) Text td files files' counts counts' (Err e) → LoadsText name td files files' counts counts' (Err e)
-text_unloaded name td files files' counts counts' e l = record {
-  steps = λ t q next. l.steps t (λ bytes. with_text q bytes next);
-  only = inl l.mine;
-  causes = l.causes;
-  same = l.same;
-  later = l.later;
-}
+text_unloaded name td files files' counts counts' e l = grind arith
 
 -- ---- one of an archive's files
 module _ {B : Type 0} (base : List ℕ) (i : Input) (promised : ℕ) (inner : Readings → List ℕ → (B → Judged) → Judged) (td : Bool) (files files' : Files) (counts counts' : List ℕ → Counts) where

@@ -6,7 +6,6 @@ use Rattle.std.proofs.lemmas.Result.{IfErr-weaker, MatchResult-weaker}
 use Rattle.std.specs.FinMap as map
 use Rattle.wg_outside.specs.declared.limits.TheConstants.{MOST_BYTES}
 use Rattle.wg_outside.specs.Outside.{Files, Counts, NonDecreasing}
-use Rattle.wg_outside.proofs.PutsLemmas.{rose_on}
 use Rattle.wg_offsets.specs.Comparing.{AreCompared, Compared}
 use Rattle.wg_offsets.specs.Stages.{AreRead, WordsRead}
 use Rattle.wg_outside.specs.declared.whole.LoadError.{LoadError}
@@ -41,7 +40,7 @@ use Rattle.wg_outcomes.proofs.FileLemmas.{file_goes, held_goes}
 use Rattle.wg_readings.proofs.PassLemmas.{graph_goes}
 use Rattle.wg_outcomes.proofs.Statuses.{bad_own, own_caused}
 use Rattle.wg_readings.proofs.UnderWay.{cause_later}
-use Rattle.wg_readings.proofs.FindingLemmas.{caused_at, error_steps, nothing_held, of_input}
+use Rattle.wg_readings.proofs.FindingLemmas.{nothing_held}
 use Rattle.wg_readings.proofs.LoadLemmas.{end_caused}
 use Rattle.wg_readings.proofs.ReadingsLemmas.{goes_on_from, offsets_refused, steps_alike}
 
@@ -61,12 +60,7 @@ module _ (r : Readings) (p : Parameters) where
 module _ (told : Bool) (name : List ℕ) (files : Files) (old new : List ℕ → Counts) (h : HeldBytes) (p : Parameters) where
   pub load_stopped : (e : LoadError) → HasReadCause told name files old new h e → (IsTrue told → map.get files name ≡ None → e ≡ load.Absent)
       → (IsTrue told → (file : List ℕ) → map.get files name ≡ Some file → IsHeldOf file h) → IsStopped told files old new p name (record { status = status_at Offsets e; promised = 0 })
-  load_stopped e cause none some = record {
-    only = inl (of_input Offsets e);
-    causes = caused_at told name files old new h Offsets e cause;
-    refused = λ t limits r next.
-        error_steps Offsets e (map.get files name) (none t) (λ file is. (cause.there t file is, cause.long t file is (some t file is))) (λ more. with_offsets r p more next);
-  }
+  load_stopped e cause none some = grind arith
 
   -- a file that was found is there, and no longer than the limit
   pub word_stopped : (e : ReadError OffsetWord LoadError) → OfRefusal e (HasReadCause told name files old new h) → (IsTrue told → IsOpenOn (map.get files name) h)
@@ -82,11 +76,7 @@ module _ (told : Bool) (name : List ℕ) (files : Files) (old new : List ℕ →
         let o = open_on t in
         subst (λ (x : Option (List ℕ)). Answers (offsets_then r p x next) (BadArchive (archive.Offsets w))) (sym o.is) (word_steps r p limits w o.file o.short (reads t o.file o.is o.held) next);
   }
-  word_stopped words.Memory cause open_on reads = record {
-    only = inl (inl refl);
-    causes = λ names named. own_caused _ _ _ _ _ _ Memory tt;
-    refused = λ t limits r next. inr tt;
-  }
+  word_stopped words.Memory cause open_on reads = grind arith
 
   -- how a job ends at a word, of a file that was looked for
   pub word_stopped_on : (e : ReadError OffsetWord LoadError) → OfRefusal e (HasReadCause told name files old new h) → h.looked ≡ true
@@ -108,8 +98,7 @@ stopped_since told files files' c0 c1 c2 p m n e same later named s =
     (record { only = s.only; causes = λ names is. cause_later names c0 c1 c2 e.status later (s.causes names is); refused = s.refused }))
 
 rose_until : (count : Counts → ℕ) (name : Option (List ℕ)) (a b c : List ℕ → Counts) → ((n : List ℕ) → count (b n) ≤ count (c n)) → IncreasedAt count name a b → IncreasedAt count name a c
-rose_until count None a b c on h = h
-rose_until count (Some n) a b c on h = rose_on _ _ _ _ (omega arith) h (on n)
+rose_until count name a b c h h2 = grind arith
 
 -- a later moment
 stopped_until : (told : Bool) (files : Files) (c0 c1 c2 : List ℕ → Counts) (p : Parameters) (n : List ℕ) (e : Ending) → NonDecreasing c1 c2
@@ -145,18 +134,12 @@ pub unread_held : (p : Parameters) (b : Pairing) (file : List ℕ) → IsUnread 
 unread_held p b file u = nothing_held file b.held u.held
 
 pub looked_read : (p : Parameters) (a b : Pairing) (bits : List Bool) → IsUnread p a → b.words ≡ a.words → b.held ≡ record a.held { looked = true } → AreRead bits b.words b.held.at []
-looked_read p a b bits u same is =
-    let at : b.held.at ≡ 0 = ap (λ (h : HeldBytes). h.at) is ∙ ap (λ (h : HeldBytes). h.at) u.held in
-    subst (λ (w : WordsRead). AreRead bits w b.held.at []) (sym same) (subst (λ (n : ℕ). AreRead bits a.words n []) (sym at) (u.none bits))
+looked_read p a b bits u same is = grind arith
 
 -- ---- a source that was made of a depot and what is held of a file
 pub steps_as : {D : Type 0} (told : Bool) (files : D → Files) (counts : D → List ℕ → Counts) (m n : List ℕ) (x a y b : D) (s h k : HeldBytes) → m ≡ n → x ≡ a → y ≡ b → s ≡ h → StepsOn told m (files x) (files y) (counts x) (counts y) s k
     → StepsOn told n (files a) (files b) (counts a) (counts b) h k
-steps_as told files counts m n x a y b s h k named depot after held steps =
-    subst (λ (i : HeldBytes). StepsOn told n (files a) (files b) (counts a) (counts b) i k) held
-    (subst (λ z. StepsOn told n (files a) (files z) (counts a) (counts z) s k) after
-    (subst (λ z. StepsOn told n (files z) (files y) (counts z) (counts y) s k) depot
-    (subst (λ (l : List ℕ). StepsOn told l (files x) (files y) (counts x) (counts y) s k) named steps)))
+steps_as told files counts m n x a y b s h k named depot after held steps = grind arith
 
 -- no error came up to the end of so many records
 pub goes_at : (told : Bool) (files : Files) (c0 c1 : List ℕ → Counts) (p : Parameters) (name : List ℕ) (n at : ℕ) (b : Pairing) → b.so_far ≡ Ok tt → IsAt told files p name n at b → HasCome told files c0 c1 p name n at b
@@ -169,8 +152,7 @@ pub came : (file : List ℕ) (b : Pairing) (here : List ℕ) → b.so_far ≡ Ok
 came file b here going h = subst (λ (r : Result (Unit {0}) Ending). OnOk r ((l : List ℕ) × IsPairedWith file b here l)) going h
 
 on_ok : {A B : Type 0} (r : Result (Unit {0}) Ending) (Q : Ending → Type 0) → MatchResult r (λ done. B) Q → (B → A) → OnOk r A
-on_ok (Ok done) Q h f = f h
-on_ok (Err e) Q h f = tt
+on_ok r Q h h2 = grind arith
 
 -- what the next step asks, if no error came
 module _ (told : Bool) (files : Files) (c0 c1 : List ℕ → Counts) (p : Parameters) (name : List ℕ) (n at : ℕ) (b : Pairing) (h : HasCome told files c0 c1 p name n at b) where
@@ -196,34 +178,17 @@ page_last page n m nodes at le ge is = omega (arith, at, le, ge, is)
 pub first_paired : (p : Parameters) (a m b : Pairing) → IsUnread p a → m.words ≡ a.words → m.lengths ≡ a.lengths → m.held ≡ record a.held { looked = true } → b.lengths ≡ m.lengths → b.words.code ≡ m.words.code
     → b.words.pages ≡ m.words.pages → b.words.count ≡ m.words.count + 1 → (m.words.count ≡ 0 → m.words.offset ≡ 0 → b.words.offset ≡ 0) → (m.held.looked ≡ true → b.held.looked ≡ true)
     → IsPaired p b × (b.lengths.page ≡ 0) × (b.lengths.here ≡ 0)
-first_paired p a m b u words lengths held kept code pages count first looked =
-    let w = words ∙ u.words in
-    let page : b.lengths.page ≡ 0 = ap (λ (l : Compared). l.page) (kept ∙ lengths) ∙ u.page in
-    let zero = first (ap (λ (x : WordsRead). x.count) w) (ap (λ (x : WordsRead). x.offset) w) in (
-      record {
-        code = code ∙ ap (λ (x : WordsRead). x.code) w;
-        pages = pages ∙ ap (λ (x : WordsRead). x.pages) w;
-        count = count ∙ ap (λ (x : WordsRead). x.count + 1) w ∙ ap (λ (k : ℕ). k + 1) (sym page);
-        there = ap (λ (l : Compared). l.there) (kept ∙ lengths) ∙ u.there ∙ sym zero;
-        looked = looked (ap (λ (h : HeldBytes). h.looked) held);
-      },
-      page,
-      ap (λ (l : Compared). l.here) (kept ∙ lengths) ∙ u.here,
-    )
+first_paired p a m b u words lengths held kept code pages count first looked = grind arith
 
 -- after one word more
 pub next_paired : (p : Parameters) (a b : Pairing) (l : Compared) (there : ℕ) → IsPaired p a → b.lengths ≡ a.lengths → b.words.code ≡ a.words.code → b.words.pages ≡ a.words.pages → b.words.count ≡ a.words.count + 1
     → (a.held.looked ≡ true → b.held.looked ≡ true) → l.page ≡ b.lengths.page + 1 → l.there ≡ there → there ≡ b.words.offset → IsPaired p (record b { lengths = l }) × (l.page ≡ a.lengths.page + 1)
-next_paired p a b l there h kept code pages count looked page is value =
-    let more : l.page ≡ a.lengths.page + 1 = page ∙ ap (λ (k : Compared). k.page + 1) kept in
-    (record { code = code ∙ h.code; pages = pages ∙ h.pages; count = count ∙ ap (λ (k : ℕ). k + 1) (h.count ∙ sym more); there = is ∙ value; looked = looked h.looked }, more)
+next_paired p a b l there h kept code pages count looked page is value = grind arith
 
 -- after an error nothing more is read
 pub stays_stopped : (told : Bool) (files : Files) (c0 c1 : List ℕ → Counts) (p : Parameters) (name : List ℕ) (n at k here : ℕ) (b : Pairing) (e : Ending) → b.so_far ≡ Err e → HasCome told files c0 c1 p name n at b
     → HasCome told files c0 c1 p name k here b
-stays_stopped told files c0 c1 p name n at k here b e stopped h =
-    subst (λ (r : Result (Unit {0}) Ending). MatchResult r (λ done. IsAt told files p name k here b) (IsStopped told files c0 c1 p name)) (sym stopped)
-    (subst (λ (r : Result (Unit {0}) Ending). MatchResult r (λ done. IsAt told files p name n at b) (IsStopped told files c0 c1 p name)) stopped h)
+stays_stopped told files c0 c1 p name n at k here b e stopped h = grind arith
 
 pub none_come : (file : List ℕ) (b : Pairing) (places : List ℕ) (e : Ending) → b.so_far ≡ Err e → ComesWith file b places
 none_come file b places e stopped = subst (λ (r : Result (Unit {0}) Ending). OnOk r ((there : List ℕ) × IsPairedWith file b places there)) (sym stopped) tt
@@ -255,8 +220,7 @@ ends_compared told files c0 c1 p name x a b found going looked same reads only s
 
 pub come_at : (told : Bool) (files : Files) (c0 c1 : List ℕ → Counts) (p : Parameters) (m name : List ℕ) (n at here : ℕ) (b : Pairing) → m ≡ name → at ≡ here → HasCome told files c0 c1 p m n at b
     → HasCome told files c0 c1 p name n here b
-come_at told files c0 c1 p m name n at here b named same h =
-    subst (λ (k : ℕ). HasCome told files c0 c1 p name n k b) same (subst (λ (x : List ℕ). HasCome told files c0 c1 p x n at b) named h)
+come_at told files c0 c1 p m name n at here b named same h = grind arith
 
 -- ---- both files
 module _ (r : Readings) (p : Parameters) (limits : IsWithinLimits p) (held : Input → Option (List ℕ)) (x : Accepted) (g : IsGraphFile (held Graph) p x) (whole : List Whole) (same : x ≡ accepted_of whole) where

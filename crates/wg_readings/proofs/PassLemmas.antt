@@ -1,5 +1,5 @@
 -- A graph file that is read in pieces, in a validation.
-use Rattle.std.proofs.Common.{◌≡◌, inl, inr, ℕ, Bool, true, false, List, refl, sym, ◌∙◌, ap, subst, Option, Some, None, Result, Ok, Err}
+use Rattle.std.proofs.Common.{◌≡◌, inl, inr, ℕ, Bool, true, false, List, refl, sym, ◌∙◌, ap, subst, Option, Some, None, Result, Ok, Err, arith}
 use Rattle.std.specs.Bool.{IsTrue}
 use Rattle.std.specs.FinMap as map
 use Rattle.wg_outside.specs.Outside.{Files, Counts}
@@ -14,11 +14,10 @@ use Rattle.wg_source.specs.Stepping.{HasCause as HasReadCause}
 use Rattle.wg_grammar.specs.declared.error.ReadError.{ReadError}
 use Rattle.wg_grammar.specs.declared.error.ReadError.TheVariants as pages
 use Rattle.wg_stream.specs.declared.first.First.{First}
-use Rattle.wg_stream.specs.declared.state.State.{State}
 use Rattle.wg_stream.specs.declared.state.State.TheVariants.{Open}
 use Rattle.wg_grammar.specs.Errors.{OfRefusal}
 use Rattle.wg_stream.specs.FirstError.{Says}
-use Rattle.wg_stream.specs.Reading.{Reading, AgreesIn, Goes, IsJudged}
+use Rattle.wg_stream.specs.Reading.{Reading, Goes, IsJudged}
 use Rattle.wg_stream.proofs.ErrorLemmas.{no_err}
 use Rattle.wg_outcomes.specs.Answers.{Answers, Steps}
 use Rattle.wg_outcomes.specs.Causes.{HasCause}
@@ -34,28 +33,20 @@ pub use Rattle.wg_outcomes.proofs.FileLemmas.{file_goes}
 use Rattle.wg_outcomes.proofs.FileLemmas.{held_goes}
 use Rattle.wg_outcomes.proofs.Statuses.{own_caused}
 use Rattle.wg_readings.specs.Passes.{Advances, FollowsFile, IsFound, IsGraphFile, ending_at, graph_then}
-use Rattle.wg_readings.proofs.FindingLemmas.{caused_at, error_steps, of_input}
+use Rattle.wg_readings.proofs.FindingLemmas.{error_steps}
 use Rattle.wg_readings.proofs.ReadingsLemmas.{goes_on, is_refused}
 
 -- ---- what an error tells, whatever the file is
 of_graph : (n : ℕ) (f : ArchiveFault) (first : First) → Says (pages.Fault f) first → IsStopAt Graph n (ending_at n (pages.Fault f))
-of_graph n (archive.Record f) first is = inr (inr (archive.Record f, refl, refl, refl))
-of_graph n (archive.Tail offset) first is = inr (inr (archive.Tail offset, refl, refl, refl))
-of_graph n (archive.ArcsShort total) first is = inr (inr (archive.ArcsShort total, refl, refl, refl))
-of_graph n (archive.Offsets w) first is = absurd is
-of_graph n (archive.Length page found stored) first is = absurd is
+of_graph n f first h = grind arith
 
 only_at : (n : ℕ) (x : ReadError ArchiveFault LoadError) (first : First) → Says x first → IsStopAt Graph n (ending_at n x)
-only_at n (pages.Fault f) first is = of_graph n f first is
-only_at n pages.Memory first is = inl (inl refl)
-only_at n (pages.Refused e) first is = inl (of_input Graph e)
+only_at n x first h = grind arith
 
 cause_at : (told : Bool) (name : List ℕ) (files : Files) (old new : List ℕ → Counts) (h : HeldBytes) (n : ℕ) (x : ReadError ArchiveFault LoadError)
     → OfRefusal x (HasReadCause told name files old new h)
     → (names : Input → Option (List ℕ)) → names Graph ≡ Some name → HasCause names no_outputs old new 0 0 (ending_at n x).status
-cause_at told name files old new h n (pages.Fault f) cause names named = own_caused _ _ _ _ _ _ (BadArchive f) tt
-cause_at told name files old new h n pages.Memory cause names named = own_caused _ _ _ _ _ _ Memory tt
-cause_at told name files old new h n (pages.Refused e) cause names named = caused_at told name files old new h Graph e cause names named
+cause_at told name files old new h n x refusal names named = grind arith
 
 -- ---- what it tells of a file that is told
 module _ (r : Readings) (p : Parameters) (limits : IsWithinLimits p) where
@@ -74,15 +65,12 @@ module _ (r : Readings) (p : Parameters) (limits : IsWithinLimits p) where
 
 -- a file that was read is there, and one that was not found is absent
 pub found_after : (o : Option (List ℕ)) (looked : Bool) → (o ≡ None → looked ≡ false → ⊥) → (looked ≡ true → (file : List ℕ) × (o ≡ Some file)) → (file : List ℕ) × (o ≡ Some file)
-found_after None false none found = absurd (none refl refl)
-found_after None true none found = found refl
-found_after (Some file) looked none found = (file, refl)
+found_after o looked h h2 = grind arith
 
 absent_after : (o : Option (List ℕ)) (looked : Bool) (x : ReadError ArchiveFault LoadError)
     → (o ≡ None → looked ≡ false → ◌≡◌ {A = Result (Unit {0}) (ReadError ArchiveFault LoadError)} (Err x) (Err (pages.Refused load.Absent)))
     → (looked ≡ true → (file : List ℕ) × (o ≡ Some file)) → o ≡ None → x ≡ pages.Refused load.Absent
-absent_after o false x none found is = let e : ◌≡◌ {A = Result (Unit {0}) (ReadError ArchiveFault LoadError)} (Err x) (Err (pages.Refused load.Absent)) = none is refl in cc
-absent_after o true x none found is = let k = found refl in absurd (let no : None ≡ Some k.0 = sym is ∙ k.1 in cc)
+absent_after o looked x h h2 h3 = grind arith
 
 module _ (told : Bool) (files files' : Files) (counts counts' : List ℕ → Counts) (p : Parameters) (a b : Reading) (going : a.state ≡ Open) (same : a.pages.params ≡ p) where
   module _ (t : IsTrue told) (limits : IsWithinLimits p) (found : IsFound files a) (follows : FollowsFile files a) (r : Readings) where
@@ -92,13 +80,7 @@ module _ (told : Bool) (files files' : Files) (counts counts' : List ℕ → Cou
     refuses (pages.Fault f) g next =
         fault_refuses r p limits (map.get files a.name) f (absent_after _ a.held.looked (pages.Fault f) (g.absent t) found)
         (λ file is. let k = follows file is in subst (λ (q : Parameters). IsJudged file q (Err f)) same (g.fault t file is k.0 k.1)) next
-    refuses (pages.Refused e) g next =
-        error_steps Graph e (map.get files a.name)
-        (λ none. let is = absent_after _ a.held.looked (pages.Refused e) (g.absent t) found none in cc)
-        (λ file is.
-        let k = follows file is in
-        let read : AgreesIn Open file a k.0 = subst (λ (s : State). AgreesIn s file a k.0) going k.1 in
-        (g.cause.there t file is, g.cause.long t file is read.held)) (λ bytes. with_graph r p bytes next)
+    refuses (pages.Refused e) g next = grind (arith, error_steps)
 
   -- an error ends the job
   pub stops : (x : ReadError ArchiveFault LoadError) (e : Ending) → e ≡ ending_at p.arcs x → Goes told files files' counts counts' a b (Err x)

@@ -1,6 +1,6 @@
 -- There is one function that reads all graph files, one that reads all offsets files, one that reads all pages, one
 -- that ranks all bounds, one that reads all arc lists, and one that reads all ASCIIGraph texts.
-use Rattle.std.proofs.Common.{◌≡◌, Option, Some, None, Err, refl, sym, ◌∙◌}
+use Rattle.std.proofs.Common.{◌≡◌, Option, Some, None, Err, refl, arith}
 use Rattle.wg_bits.specs.Bits.{bits_of}
 use Rattle.wg_params.specs.declared.key.Key.{Key}
 use Rattle.wg_params.specs.Parameters.{Parameters, IsWithinLimits, first_bad}
@@ -10,7 +10,6 @@ use Rattle.wg_grammar.proofs.OneGraph.{graph_one, graph_some}
 use Rattle.wg_grammar.specs.declared.fault.OffsetWord.TheVariants.{First}
 use Rattle.wg_offsets.specs.Words.{ReadsOffsets}
 use Rattle.wg_offsets.proofs.OneFile.{offsets_one, offsets_some}
-use Rattle.wg_properties.proofs.Limits.{none_bad}
 use Rattle.wg_decoder.specs.Chains.{SpotReads}
 use Rattle.wg_stream.proofs.SpotSome.{page_some}
 use Rattle.wg_arcs.proofs.SomeGraph.{texts_are_some}
@@ -27,8 +26,7 @@ in_limits p None none read other = read (within_limits p none)
 in_limits p (Some key) none read other = other
 
 right : {A : Type 0} (P : A → Type 0) (p : Parameters) → IsWithinLimits p → (bad : Option Key) (is : first_bad p ≡ bad) (read : (l : IsWithinLimits p) → (x : A) × P x) (other : A) → P (in_limits p bad is (λ l. (read l).0) other)
-right P p limits None none read other = (read (within_limits p none)).1
-right P p limits (Some key) none read other = let never : None ≡ Some key = sym (none_bad p limits) ∙ none in absurd cc
+right P p h bad is read other = grind arith
 
 pub the_readings : Readings
 the_readings = record {

@@ -1,5 +1,5 @@
 -- Files that were read, in a validation.
-use Rattle.std.proofs.Common.{◌≡◌, ◌∙◌, ◌<◌, ◌≤◌, ℕ, zero, suc, Bool, if◌then◌else◌, refl, List, [], ◌∷◌, length, get_or, eqb, inl, inr, arith, ap, subst, sym, Some, None, Ok, Err, Result}
+use Rattle.std.proofs.Common.{◌≡◌, ◌∙◌, ◌<◌, ◌≤◌, ℕ, zero, suc, Bool, if◌then◌else◌, refl, List, [], ◌∷◌, length, get_or, eqb, inl, inr, arith, ap, Some, None, Ok, Err, Result}
 use Rattle.std.proofs.lemmas.Bool.{cases_Bool, le-leb, lt-leb}
 use Rattle.std.specs.Bool.{IsTrue}
 use Rattle.wg_bits.specs.Bits.{bits_of}
@@ -27,7 +27,7 @@ use Rattle.wg_arcs.proofs.Unique.{listed_one}
 use Rattle.wg_ascii.specs.declared.fault.AsciiKind.{AsciiKind}
 use Rattle.wg_ascii.specs.Reading as ascii
 use Rattle.wg_ascii.proofs.Unique.{texts_are_one}
-use Rattle.wg_outcomes.specs.Answers.{Answers, Steps}
+use Rattle.wg_outcomes.specs.Answers.{Steps}
 use Rattle.wg_outcomes.specs.declared.ending.Ending.{Ending}
 use Rattle.wg_outcomes.specs.Readings.{Readings}
 use Rattle.wg_outcomes.specs.Judged.{Judged, refused, with_graph, with_offsets, with_lengths, with_list, with_pages, with_successors, with_text, unless_bad_chain, unless_bad_graph, unless_bad_offsets, unless_bad_list, unless_bad_text, unless_no_page, unless_some_differ}
@@ -36,8 +36,7 @@ use Rattle.wg_readings.proofs.LimitsLemmas.{coded}
 
 -- a step that goes on as another does, or ends as that does
 pub steps_alike : {B : Type 0} (f g : (B → Judged) → Judged) → ((next : B → Judged) → f next ≡ g next) → (r : Result B Ending) → Steps g r → Steps f r
-steps_alike f g same (Ok b) steps = λ next. same next ∙ steps next
-steps_alike f g same (Err e) steps = λ next. subst (λ (j : Judged). Answers j e.status) (sym (same next)) (steps next)
+steps_alike f g h r h2 = grind arith
 
 module _ (r : Readings) (p : Parameters) (limits : IsWithinLimits p) (bytes : List ℕ) where
   -- the bits stand for one thing alone
@@ -63,8 +62,7 @@ module _ (r : Readings) (p : Parameters) (limits : IsWithinLimits p) (bytes : Li
 -- an offsets file that was read by what the parameters say
 pub by_params : (p : Parameters) (bits : List Bool) (code : Code) (n : ℕ) (w : Result (List ℕ) OffsetWord) → code ≡ p.offsets → n ≡ p.nodes
     → ReadsOffsets code n bits w → ReadsOffsets p.offsets p.nodes bits w
-by_params p bits code n w same count h =
-    subst (λ (c : Code). ReadsOffsets c p.nodes bits w) same (subst (λ (k : ℕ). ReadsOffsets code k bits w) count h)
+by_params p bits code n w same count h = grind arith
 
 -- a page is one thing alone
 pub pages_one : (p : Parameters) → IsWithinLimits p → (bits : List Bool) (places : List ℕ) (page : ℕ) (v w : Result Known ArchiveFault)
@@ -108,12 +106,7 @@ module _ (r : Readings) (n : ℕ) (bytes : List ℕ) where
 
 -- an ASCIIGraph text stands for one thing alone
 pub decided_one : (bytes : List ℕ) (w v : Result Digraph (ℕ × AsciiKind)) → ascii.IsDecided bytes w → ascii.IsDecided bytes v → w ≡ v
-decided_one bytes (Ok g) (Ok h) a b = ap Ok (texts_are_one.graph (lines_of bytes) g h a b)
-decided_one bytes (Ok g) (Err fault) a b = absurd (texts_are_one.never_both (lines_of bytes) g fault.0 fault.1 a b)
-decided_one bytes (Err fault) (Ok g) a b = absurd (texts_are_one.never_both (lines_of bytes) g fault.0 fault.1 b a)
-decided_one bytes (Err fault) (Err other) a b =
-    let same = texts_are_one.fault (lines_of bytes) fault.0 other.0 fault.1 other.1 a b in
-    λ i. Err (same.0 i, same.1 i)
+decided_one bytes w v h h2 = grind (arith, texts_are_one)
 
 -- an ASCIIGraph text that was read
 module _ (r : Readings) (bytes : List ℕ) where
@@ -141,6 +134,4 @@ pub in_at : (xs : List ℕ) (k d : ℕ) → k < length xs → IsTrue (is_in (get
 in_at [] k d lt = elim lt [ ]
 in_at (x ∷ xs) zero d lt = in_head x xs
 in_at (x ∷ xs) (suc k) d lt =
-    let y : ℕ = get_or xs k d in
-    let rest : IsTrue (is_in y xs) = in_at xs k d (omega arith) in
-    elim (cases_Bool (eqb y x)) [ inl h ↦ rw h refl | inr h ↦ rw (h, rest) refl ]
+    elim (cases_Bool (eqb (get_or xs k d) x)) [ inl h ↦ rw h refl | inr h ↦ rw (h, (in_at xs k d (omega arith))) refl ]

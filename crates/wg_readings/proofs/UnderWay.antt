@@ -1,16 +1,16 @@
 -- A reading of a graph file that is under way.
-use Rattle.std.proofs.Common.{◌≡◌, ℕ, ◌≤◌, Bool, List, [], ◌∷◌, ◌++◌, length, sym, ◌∙◌, ap, subst, arith, append_assoc, length-append, Ok, ◌+◌, true, refl, Option, Some, Err}
+use Rattle.std.proofs.Common.{◌≡◌, ℕ, ◌≤◌, Bool, List, [], ◌∷◌, ◌++◌, length, sym, ◌∙◌, ap, subst, arith, append_assoc, length-append, Ok, ◌+◌, true, Option, Some, Err}
 use Rattle.wg_params.specs.Parameters.{Parameters, IsWithinLimits}
 use Rattle.wg_grammar.specs.Record.{Whole}
 use Rattle.wg_grammar.specs.Archive.{Accepted, Pages, ReadsGraph, context_of}
 use Rattle.wg_grammar.proofs.OneRecord.{record_one}
-use Rattle.wg_stream.specs.Prefix.{PagesRead, AreBehind, RecordsStand}
+use Rattle.wg_stream.specs.Prefix.{PagesRead, AreBehind}
 use Rattle.wg_readings.specs.Passes.{accepted_of, Advances, FollowsFile, IsFound, IsFresh, IsGraphFile, graph_then}
 use Rattle.std.specs.Bool.{IsTrue}
 use Rattle.std.specs.FinMap as map
 use Rattle.wg_outside.specs.Outside.{Files, Counts, NonDecreasing}
 use Rattle.wg_outside.specs.declared.suffixes.TheConstants.{GRAPH}
-use Rattle.wg_outside.proofs.FilesLemmas.{none_falls-refl, none_falls-trans}
+use Rattle.wg_outside.proofs.FilesLemmas.{none_falls-trans}
 use Rattle.wg_bits.specs.Bits.{bits_of}
 use Rattle.wg_grammar.proofs.OneGraph.{graph_one}
 use Rattle.wg_stream.specs.declared.state.State.TheVariants.{Open}
@@ -24,7 +24,6 @@ use Rattle.wg_outcomes.specs.declared.ending.Ending.{Ending}
 use Rattle.wg_outcomes.specs.declared.status.Input.{Input}
 use Rattle.wg_outcomes.specs.declared.status.Input.TheVariants.{Graph}
 use Rattle.wg_outcomes.specs.declared.status.Status.{Status}
-use Rattle.wg_outcomes.proofs.Statuses.{rose_late}
 
 -- ---- records that were read are the first of all records of their bits
 module _ (p : Parameters) (bits : List Bool) where
@@ -38,9 +37,7 @@ module _ (p : Parameters) (bits : List Bool) where
   -- fewer records are the first of more
   pages_one : IsWithinLimits p → (behind : List Whole) (at : ℕ) (ks ls last all : List Whole) (end far : ℕ) → Pages p bits behind at ks last end → Pages p bits behind at ls all far
       → length last ≤ length all → (rest : List Whole) × (all ≡ rest ++ last)
-  pages_one limits behind at [] ls last all end far a b few =
-      let k = stay_behind behind at ls all far b in
-      (k.0, k.1 ∙ ap (λ (l : List Whole). k.0 ++ l) (sym a.0))
+  pages_one limits behind at [] ls last all end far a b few = grind (arith, stay_behind)
   pages_one limits behind at (k ∷ ks) [] last all end far a b few =
       let r = stay_behind (k ∷ behind) k.end ks last end a.2 in
       absurd (omega (arith, few, ap length b.0, ap length r.1, length-append r.0 (k ∷ behind)))
@@ -51,11 +48,7 @@ module _ (p : Parameters) (bits : List Bool) where
 
 first_of : (p : Parameters) → IsWithinLimits p → (bits : List Bool) (x : Accepted) (whole : List Whole) (r : PagesRead) (at : ℕ) → r.params ≡ p → r.page ≤ p.nodes
     → AreBehind bits r at whole → ReadsGraph p bits (Ok x) → (rest : List Whole) × (x ≡ accepted_of (rest ++ whole))
-first_of p limits bits x whole r at same few read g =
-    let h = subst (λ (q : Parameters). RecordsStand q bits r.page r.arcs at r.kept whole) same read in
-    let k = pages_one p bits limits [] 0 h.stood g.0 whole g.1 at g.2 h.records g.3 (omega (arith, h.count, few, g.4.0)) in
-    let is : x ≡ accepted_of g.1 = λ i. record { graph = g.4.3 i; places = g.4.4 i } in
-    (k.0, is ∙ ap accepted_of k.1)
+first_of p limits bits x whole r at same few read g = grind (arith, pages_one)
 
 -- So many records were read, of which this holds; no file has changed.
 pub record IsUnderWay (told : Bool) (base : List ℕ) (p : Parameters) (files files' : Files) (counts counts' : List ℕ → Counts) (n : ℕ) (r : Reading) (P : List Whole → Type 0) : Type 0 where
@@ -70,25 +63,11 @@ pub record IsUnderWay (told : Bool) (base : List ℕ) (p : Parameters) (files fi
 
 -- ---- causes of later moments
 pub cause_later : (names : Input → Option (List ℕ)) (a b c : List ℕ → Counts) (s : Status) → NonDecreasing a b → HasCause names no_outputs b c 0 0 s → HasCause names no_outputs a c 0 0 s
-cause_later names a b c s on h = record {
-  read_fault = λ i is. rose_late (λ k. k.read_faults) (names i) a b c on.read_faults (h.read_fault i is);
-  missing = λ i is. rose_late (λ k. k.absences) (names i) a b c on.absences (h.missing i is);
-  write_fault = λ o other is. absurd (h.write_fault o other is);
-  out_fault = h.out_fault;
-}
+cause_later names a b c s on h = grind arith
 
 module _ (told : Bool) (base : List ℕ) (p : Parameters) (files : Files) (counts : List ℕ → Counts) where
   pub begins : (r : Reading) (P : List Whole → Type 0) → IsFresh base p r → P [] → IsUnderWay told base p files files counts counts 0 r P
-  begins r P fresh none = record {
-    state = fresh.state;
-    params = fresh.params;
-    name = fresh.name;
-    page = fresh.page;
-    same = refl;
-    later = none_falls-refl counts;
-    found = λ t looked. absurd (fresh.looked looked);
-    follows = λ t file is. ([], fresh.in_step file, none);
-  }
+  begins r P fresh none = grind arith
 
   module _ (files1 files2 : Files) (counts1 counts2 : List ℕ → Counts) (n : ℕ) (a b : Reading) (P : List Whole → Type 0) (h : IsUnderWay told base p files files1 counts counts1 n a P) where
     there_by : IsTrue told → (file : List ℕ) → map.get files a.name ≡ Some file → (whole : List Whole) × IsInStep file a whole × P whole
@@ -112,9 +91,8 @@ module _ (told : Bool) (base : List ℕ) (p : Parameters) (files : Files) (count
           let f = step.there t files h.same (h.found t) in
           (f.0, ap (λ (n : List ℕ). map.get files n) step.name ∙ f.1);
       follows = λ t file is.
-          let there : map.get files a.name ≡ Some file = ap (λ (n : List ℕ). map.get files n) h.name ∙ is in
           let k = h.follows t file is in
-          let s = in_step t files h.same file there k.0 k.1 in
+          let s = in_step t files h.same file (ap (λ (n : List ℕ). map.get files n) h.name ∙ is) k.0 k.1 in
           let read : AgreesIn Open file a k.0 = subst (λ (x : State). AgreesIn x file a k.0) h.state k.1 in
           (s.0 ∷ k.0, s.3, on k.0 s.0 (read.records.count ∙ h.page) s.1 s.2 k.2);
     }
@@ -160,13 +138,4 @@ module _ (told : Bool) (base : List ℕ) (p : Parameters) (files : Files) (count
 -- at a later moment
 pub way_later : (told : Bool) (base : List ℕ) (p : Parameters) (files files1 files2 : Files) (counts counts1 counts2 : List ℕ → Counts) (n : ℕ) (r : Reading) (P : List Whole → Type 0) → files2 ≡ files1 → NonDecreasing counts1 counts2
     → IsUnderWay told base p files files1 counts counts1 n r P → IsUnderWay told base p files files2 counts counts2 n r P
-way_later told base p files files1 files2 counts counts1 counts2 n r P same later h = record {
-  state = h.state;
-  params = h.params;
-  name = h.name;
-  page = h.page;
-  same = same ∙ h.same;
-  later = none_falls-trans _ _ _ h.later later;
-  found = h.found;
-  follows = h.follows;
-}
+way_later told base p files files1 files2 counts counts1 counts2 n r P same later h = grind arith

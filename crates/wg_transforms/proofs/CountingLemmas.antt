@@ -21,8 +21,7 @@ module _ (n : ℕ) (behind : List Whole) (w : Whole) (k : ℕ) (is : length behi
 
   -- a record more leaves the lists before it as they are
   same_list : (u : ℕ) → u < k → successors (graph_behind n behind) u ≡ successors (graph_behind n (w ∷ behind)) u
-  same_list u lt =
-      sym (ap (λ (l : List (List ℕ)). get_or l u []) (lists_more w behind) ∙ get_or_append_left (lists_of behind) (w.known.list ∷ []) [] u (omega (arith, size)))
+  same_list u lt = grind (arith, get_or_append_left, lists_more, size)
 
   last_list : w.known.list ≡ successors (graph_behind n (w ∷ behind)) k
   last_list = sym (ap (λ (l : List (List ℕ)). get_or l k []) (lists_more w behind) ∙ get_or_at (lists_of behind) w.known.list [] [] k size)

@@ -48,10 +48,7 @@ module _ (l : Layout) (n : ℕ) (p begun : Parameters) (is : p ≡ params_of l n
       pub made_of : (made : Parameters) (archive : Summarized) → n ≡ g.nodes → made ≡ params_of l n arcs
           → ((all : List (List ℕ)) → HasEncoded e all → made ≡ record (e.params) { arcs = made.arcs } → archive ≡ encoded made (text_of made) all)
           → IsArchiveOf l g (made, archive)
-      made_of made archive size made_is ends = (
-        made_is ∙ (λ i. params_of l (size i) ((count ∙ lists.arcs) i)),
-        ends g.lists lists (made_is ∙ (λ i. params_of l n (sym (ap (λ (q : Parameters). q.arcs) made_is) i)) ∙ (λ i. record (sym (same ∙ begun_is ∙ is) i) { arcs = made.arcs })),
-      )
+      made_of made archive size made_is ends = grind arith
 
 -- an ending by running out of memory tells nothing of the arcs
 pub no_status : (a b : ℕ) (s : Status) → s ≡ status.Memory → s ≡ status.TooManyArcs → a < b

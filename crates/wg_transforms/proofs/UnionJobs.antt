@@ -1,5 +1,5 @@
 -- How `union` goes on from archive to archive, or ends.
-use Rattle.std.proofs.Common.{◌≡◌, ◌∙◌, ◌⊎◌, ◌<◌, ◌≤◌, inl, inr, ℕ, Bool, if◌then◌else◌, List, ◌++◌, Option, Result, Ok, Err, refl, sym, ap, subst}
+use Rattle.std.proofs.Common.{◌≡◌, ◌∙◌, ◌⊎◌, ◌<◌, ◌≤◌, inl, inr, ℕ, Bool, if◌then◌else◌, List, ◌++◌, Option, Result, Ok, Err, refl, sym, ap, subst, arith}
 use Rattle.std.specs.Bool.{IsTrue}
 use Rattle.std.proofs.lemmas.Bool.{le-ltb, lt-ltb}
 use Rattle.wg_outside.specs.Outside.{Files, Counts}
@@ -34,7 +34,7 @@ use Rattle.wg_readings.proofs.JobSteps.{IsRefusal, ends_refused, want_refuses}
 use Rattle.wg_readings.proofs.UnderWay.{cause_later}
 use Rattle.wg_outcomes.specs.Commands.{builds, with_union}
 use Rattle.wg_transforms.specs.Loaded.{IsArchiveFile, IsOfArchive, LoadsArchive, result_of_second}
-use Rattle.wg_outcomes.specs.JobFiles.{can_end, has_input, input_name, output_name}
+use Rattle.wg_outcomes.specs.JobFiles.{can_end, input_name, output_name}
 use Rattle.wg_outcomes.specs.Performs.{BuildsArchive, OutCounts, Outside, Performs, judged_on, outside}
 use Rattle.wg_outcomes.specs.Reached.{Reaches}
 use Rattle.wg_transforms.specs.declared.loaded.Loaded.{Loaded}
@@ -45,13 +45,7 @@ use Rattle.wg_outcomes.proofs.PerformsLemmas.{stopped}
 
 archive_cases : (P : Status → Type 0) → P Memory → ((i : Input) → IsArchiveFile i → P (ReadFault i)) → ((i : Input) → IsArchiveFile i → P (Missing i)) → ((i : Input) → IsArchiveFile i → P (OverLimit i))
     → ((f : PropFault) → P (BadProperties f)) → ((f : ArchiveFault) → P (BadArchive f)) → (s : Status) → IsOfArchive s → P s
-archive_cases P memory failed absent long properties bad Memory only = memory
-archive_cases P memory failed absent long properties bad (ReadFault i) only = failed i only
-archive_cases P memory failed absent long properties bad (Missing i) only = absent i only
-archive_cases P memory failed absent long properties bad (OverLimit i) only = long i only
-archive_cases P memory failed absent long properties bad (BadProperties f) only = properties f
-archive_cases P memory failed absent long properties bad (BadArchive f) only = bad f
-archive_cases P memory failed absent long properties bad _ only = absurd only
+archive_cases P h h2 h3 h4 h5 h6 s h7 = grind arith
 
 archive_inputs : (P : Input → Type 0) → P input.Properties → P input.Graph → P input.Offsets → (i : Input) → IsArchiveFile i → P i
 archive_inputs P properties graph offsets input.Properties there = properties
@@ -62,15 +56,11 @@ archive_inputs P properties graph offsets _ there = absurd there
 -- ---- what is told of the second archive
 
 second_status : (j : Judged) → as_second (status_of j) ≡ status_of (of_second j)
-second_status (refused s) = refl
-second_status _ = refl
-
-second_hinders : (s : Status) → IsOfArchive s → IsHindrance s → IsHindrance (as_second s)
-second_hinders = archive_cases (λ s. IsHindrance s → IsHindrance (as_second s)) (λ h. h) (λ i there h. tt) (λ i there h. absurd h) (λ i there h. absurd h) (λ f h. absurd h) (λ f h. absurd h)
+second_status j = grind arith
 
 second_answers : (j : Judged) (s : Status) → IsOfArchive s → Answers j s → Answers (of_second j) (as_second s)
 second_answers j s only (inl is) = inl (ap as_second is ∙ second_status j)
-second_answers j s only (inr hinders) = inr (second_hinders s only hinders)
+second_answers j s only (inr hinders) = grind (arith, archive_cases)
 
 module _ (first second output : List ℕ) (layout : Layout) (td to : Bool) (before : Outside) where
   abbrev job : Job
@@ -90,37 +80,23 @@ module _ (first second output : List ℕ) (layout : Layout) (td to : Bool) (befo
   first_stop : (s : Status) → IsOfArchive s → IsStop s
   first_stop = archive_cases IsStop tt (λ i there. tt) (λ i there. tt) (λ i there. tt) (λ f. tt) (λ f. tt)
 
-  first_there : (i : Input) → IsArchiveFile i → IsTrue (has_input job i)
-  first_there = archive_inputs (λ i. IsTrue (has_input job i)) refl refl refl
-
   fault_there : (f : ArchiveFault) → IsArchiveFile (file_of_fault f)
-  fault_there (archive.Offsets w) = tt
-  fault_there _ = tt
+  fault_there f = grind arith
 
   first_possible : (s : Status) → IsOfArchive s → IsTrue (can_end job s)
-  first_possible = archive_cases (λ s. IsTrue (can_end job s)) refl first_there first_there first_there (λ f. refl) (λ f. first_there (file_of_fault f) (fault_there f))
+  first_possible = grind (arith, archive_cases, fault_there, archive_inputs)
 
   first_name : (i : Input) → IsArchiveFile i → input_name job i ≡ file_of first i
   first_name = archive_inputs (λ i. input_name job i ≡ file_of first i) refl refl refl
 
   first_caused : (old new : List ℕ → Counts) (f f' : ℕ) (s : Status) → IsOfArchive s → HasCause (file_of first) no_outputs old new 0 0 s → HasCause (input_name job) (output_name job) old new f f' s
-  first_caused old new f f' s only cause = record {
-    read_fault = λ i is. subst (λ (n : Option (List ℕ)). IncreasedAt (λ c. c.read_faults) n old new) (sym (first_name i (subst IsOfArchive is only))) (cause.read_fault i is);
-    missing = λ i is. subst (λ (n : Option (List ℕ)). IncreasedAt (λ c. c.absences) n old new) (sym (first_name i (subst IsOfArchive is only))) (cause.missing i is);
-    write_fault = λ o other is. absurd (subst IsOfArchive is only);
-    out_fault = λ is. absurd (subst IsOfArchive is only);
-  }
+  first_caused old new f f' s only cause = grind (arith, first_name)
 
   abbrev in_first : Input → Option (List ℕ)
   in_first = held_by (file_of first) before.files
 
-  fault_promised : (n : ℕ) (f : ArchiveFault) → ArePromised in_first (BadArchive f) n → ArePromised held (BadArchive f) n
-  fault_promised n (archive.ArcsShort total) told = told
-  fault_promised n _ told = tt
-
   first_promised : (n : ℕ) (s : Status) → IsOfArchive s → ArePromised in_first s n → ArePromised held s n
-  first_promised n =
-      archive_cases (λ s. ArePromised in_first s n → ArePromised held s n) (λ told. tt) (λ i there told. tt) (λ i there told. tt) (λ i there told. tt) (λ f told. tt) (fault_promised n)
+  first_promised n = grind arith
 
   first_reached : (r : Readings) (i : Input) → IsArchiveFile i → ((next : Parameters → Accepted → Judged) → with_archive r (without i in_first) next ≡ refused (Missing i)) → Reaches r job held i
   first_reached r =
@@ -136,22 +112,14 @@ module _ (first second output : List ℕ) (layout : Layout) (td to : Bool) (befo
   second_stop : (s : Status) → IsOfArchive s → IsStop (as_second s)
   second_stop = archive_cases (λ s. IsStop (as_second s)) tt (λ i there. tt) (λ i there. tt) (λ i there. tt) (λ f. tt) (λ f. tt)
 
-  second_there : (i : Input) → IsArchiveFile i → IsTrue (has_input job (second_input i))
-  second_there = archive_inputs (λ i. IsTrue (has_input job (second_input i))) refl refl refl
-
   second_possible : (s : Status) → IsOfArchive s → IsTrue (can_end job (as_second s))
-  second_possible = archive_cases (λ s. IsTrue (can_end job (as_second s))) refl second_there second_there second_there (λ f. refl) (λ f. second_there (file_of_fault f) (fault_there f))
+  second_possible = grind (arith, archive_cases, fault_there, archive_inputs)
 
   abbrev in_second : Input → Option (List ℕ)
   in_second = held_by (file_of second) before.files
 
-  second_fault_promised : (n : ℕ) (f : ArchiveFault) → ArePromised in_second (BadArchive f) n → ArePromised held (as_second (BadArchive f)) n
-  second_fault_promised n (archive.ArcsShort total) told = told
-  second_fault_promised n _ told = tt
-
   second_promised : (n : ℕ) (s : Status) → IsOfArchive s → ArePromised in_second s n → ArePromised held (as_second s) n
-  second_promised n =
-      archive_cases (λ s. ArePromised in_second s n → ArePromised held (as_second s) n) (λ told. tt) (λ i there told. tt) (λ i there told. tt) (λ i there told. tt) (λ f told. tt) (second_fault_promised n)
+  second_promised n = grind (arith, archive_cases)
 
   module _ (old new : List ℕ → Counts) (f f' : ℕ) where
     abbrev caused : Status → Type 0
@@ -257,7 +225,5 @@ module _ (first second output : List ℕ) (layout : Layout) (td to : Bool) (befo
 -- what was read of the second archive, if nothing ended it
 pub second_read : (base : List ℕ) (td : Bool) (files files' : Files) (counts counts' : List ℕ → Counts) (read : Result Loaded Ending) (l : Loaded) → LoadsArchive base td files files' counts counts' read
     → Ok l ≡ result_of_second read → LoadsArchive base td files files' counts counts' (Ok l)
-second_read base td files files' counts counts' (Ok x) l h is =
-    let same : l ≡ x = cc is in
-    subst (λ (y : Loaded). LoadsArchive base td files files' counts counts' (Ok y)) (sym same) h
+second_read base td files files' counts counts' (Ok x) l h is = grind arith
 second_read base td files files' counts counts' (Err e) l h is = absurd (cc is)

@@ -20,12 +20,9 @@ taken l j lt = let next : suc (j + 1) ≡ j + 1 + 1 = omega arith in sym (take-s
 
 pub loop-page-init : goal.loop-page-init
 loop-page-init g c =
-    let files = g.D.Depot.files c.args.depot.now in
-    let found : List ℕ = c.args.offsets.now in
     let named = c.in_ok-pairing.ensures.name in
     let b = c.begin_pairing.ensures in
     let first = c.len.ensures.places.first in
-    let some : 0 < length found = omega (arith, c.requires) in
     record {
       name = b.name ∙ named;
       same = b.same;
@@ -33,8 +30,8 @@ loop-page-init g c =
       come = come_at _ _ _ _ _ _ _ _ _ _ c.begin_pairing.new.pairing named (sym first) b.come;
       reads = λ t file is.
           subst (λ (places : List ℕ). ComesWith file c.begin_pairing.new.pairing places)
-          (ap (λ (v : ℕ). v ∷ []) (sym first) ∙ sym (take-suc found 0 0 some))
-          (b.reads t file (ap (λ (n : List ℕ). map.get files n) named ∙ is));
+          (ap (λ (v : ℕ). v ∷ []) (sym first) ∙ sym (take-suc c.args.offsets.now 0 0 (omega (arith, c.requires))))
+          (b.reads t file (ap (λ (n : List ℕ). map.get (g.D.Depot.files c.args.depot.now) n) named ∙ is));
     }
 
 pub loop-page-preserved : goal.loop-page-preserved

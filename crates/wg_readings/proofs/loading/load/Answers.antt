@@ -1,4 +1,4 @@
-use Rattle.std.proofs.Common.{rules, ◌≡◌, Some, refl}
+use Rattle.std.proofs.Common.{rules, refl}
 use Rattle.wg_outside.proofs.PutsLemmas.{is_that_err}
 use Rattle.wg_outcomes.specs.Names.{file_of}
 use Rattle.wg_readings.proofs.LoadLemmas.{loads_none}
@@ -8,6 +8,4 @@ pub returns-in_err-name : goal.returns-in_err-name
 returns-in_err-name g c = rw (is_that_err c.from_residual.result _ c.from_residual.ensures.1) (loads_none _ _ _ _ _ _ refl)
 
 pub returns : goal.returns
-returns g c =
-    let named : file_of c.args.base.now c.args.input ≡ Some c.as_str.result.now = search rules in
-    c.load_file.ensures (file_of c.args.base.now) named
+returns g c = c.load_file.ensures (file_of c.args.base.now) (search rules)

@@ -1,4 +1,4 @@
-use Rattle.std.proofs.Common.{rules, ◌≡◌, ◌≤◌, ◌∙◌, max, refl, sym, subst, arith}
+use Rattle.std.proofs.Common.{rules, ◌≡◌, ◌∙◌, max, refl, sym, subst, arith}
 use Rattle.wg_outside.proofs.PutsLemmas.{is_that_err}
 use Rattle.wg_encoder.specs.ArchiveInMemory.{HasEncoded}
 use Rattle.wg_shape.specs.Graphs.{lists_of}
@@ -38,12 +38,11 @@ pages-preserved g c =
 pub returns-in_err-encoder : goal.returns-in_err-encoder
 returns-in_err-encoder g c =
     let i = c.pages.invariant in
-    let n = c.in_err-encoder.ensures in
     rw (is_that_err c.from_residual.result _ c.from_residual.ensures.1) record {
       params = tt;
       all = tt;
       encoded = tt;
-      too_many = rw (i.first, i.second) at n.too_many;
+      too_many = rw (i.first, i.second) at c.in_err-encoder.ensures.too_many;
     }
 
 pub returns : goal.returns
@@ -51,7 +50,6 @@ returns g c =
     let first = g.A.Lists.graph c.args.first.now in
     let second = g.B.Lists.graph c.args.second.now in
     let i = c.pages.invariant in
-    let none_left : c.max-nodes.result ≤ c.pages.encoder.page = subst (λ n. c.max-nodes.result ≤ n) c.page.ensures.value c.pages-test.false in
     let all : c.pages.encoder.page ≡ max first.nodes second.nodes = omega arith in
     record {
       params = i.params;
