@@ -1,2 +1,5 @@
 pub mod Answers
 pub mod Many
+pub mod Checking
+pub mod Ranking
+pub mod Verifying

@@ -2,14 +2,24 @@
 #![tactic(auto)]
 
 mod arrays;
+mod checking;
 mod lists;
 mod many;
 mod offsets;
+mod outdegrees;
 mod placed;
+mod ranking;
 mod spot;
+mod verifying;
+mod wide;
 
+pub use checking::{check, check_offsets};
 pub use lists::read_lists;
 pub use many::{Stop, Stopped, successors_of};
 pub use offsets::read_offsets;
+pub use outdegrees::read_outdegrees;
 pub use placed::Fall;
+pub use ranking::{RankError, copied, lists_of, rank};
 pub use spot::successors;
+pub use verifying::{VerifyError, verify};
+pub use wide::{put_wide, wide_of};
