@@ -150,6 +150,7 @@ pub fn rank(
     requires damping { damping ≤ MOST_DAMPING }
     requires rounds { rounds ≤ MOST_ROUNDS }
     ensures bounds { IfOk result (AreRanks params (bits_of graph.now) weights.now damping rounds) }
+    ensures pages { IfOk result (λ b. (length b.low ≡ params.nodes) × (length b.high ≡ params.nodes)) }
     ensures fault { IfErr result (λ e. OfArchive e (λ f. ReadsGraph params (bits_of graph.now) (Err f))) }
     ensures weights { IfErr result (λ e. e ≡ errors.Weights
         → AreWeights params.nodes (weights_of params.nodes (given_by weights.now)) → ⊥) }
