@@ -1,0 +1,5 @@
+pub mod Numbers
+pub mod Faults
+pub mod Answers
+pub mod Ranks
+pub mod Many
