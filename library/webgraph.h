@@ -45,7 +45,7 @@ typedef struct {
  *     1    a field of a record            its page                its bit           0, 0
  *     2    bits after the records         0                       the bit           0, 0
  *     3    too few arcs                   0                       how many          0, 0
- *     4    a length of the offsets        the page of the record  0                 its bits in the graph, in the offsets
+ *     4    a length of the offsets        the page of the record  0                 its bits by graph, by offsets
  *     5    a word of the offsets is cut   the number of the word  0                 0, 0
  *     6    no word of their code          the number of the word  0                 0, 0
  *     7    the first word is not 0        0                       0                 0, 0
@@ -53,9 +53,9 @@ typedef struct {
  *     9    bits after the words           0                       the bit           0, 0
  *
  * `field` is 0 the outdegree, 1 the reference, 2 the count of copy blocks, 3 a copy block, 4 what is copied, 5 the
- * count of intervals, 6 the left end of one, 7 its length, 8 a residual, 9 the whole record. `kind` is 0 cut, 1 no word
- * of the code, 2 out of range, 3 too long a chain of references, 4 too many in all, 5 more than is copied from, 6 a
- * successor twice. */
+ * count of intervals, 6 the left end of one, 7 its length, 8 a residual, 9 the whole record. `kind` is 0 the file ends,
+ * 1 no word of the code, 2 a value that is not allowed there, 3 too many references after one another, 4 more arcs than
+ * the parameters say, 5 more successors are copied than the page has, 6 a successor comes twice. */
 typedef struct {
     uint32_t which, field, kind;
     uint64_t page, at, found, stored;
@@ -83,8 +83,9 @@ uint32_t wg_successors(const wg_params *params, const uint8_t *graph, size_t len
 
 /* The successors of several pages, in any order, one list after the other: that of pages[i] ends before out[ends[i]],
  * and begins where the one before it ends. `ends_room` is at least `how_many`. At each status but 2, where nothing is
- * told, *done lists stand in the arrays; if the status is not 0, pages[*done] is why. After 17 a call for the rest, with
- * the array empty, goes on. Each list costs what a call of wg_successors does. Status 0, 2, 3, 9, 10, 17, 18. */
+ * told, *done lists stand in the arrays; if the status is not 0, pages[*done] is why. After 17 a call for the rest of
+ * the pages, with an empty array, goes on. Each list costs what a call of wg_successors does. Status 0, 2, 3, 9, 10,
+ * 17, 18. */
 uint32_t wg_successors_of(const wg_params *params, const uint8_t *graph, size_t length, const uint64_t *places,
                           size_t count, const uint64_t *pages, size_t how_many, uint64_t *ends, size_t ends_room,
                           uint64_t *out, size_t room, uint64_t *done, wg_fault *fault);
@@ -133,8 +134,8 @@ uint32_t wg_rank(const wg_params *params, const uint8_t *graph, size_t length, c
                  wg_fault *fault);
 
 /* Whether these are lower bounds, in the words of wg_rank: one round lowers none of them. Then *left is what they leave
- * of 1, in units of 10^-24: no share is more than that above its bound. At status 16 *page is the first page whose bound
- * a round lowers, or UINT64_MAX where all add up to more than 1. Status 0, 2, 3, 9, 12, 16. */
+ * of 1, in units of 10^-24: no share is more than that above its bound. At status 16 *page is the first page whose
+ * bound a round lowers, or UINT64_MAX where all add up to more than 1. Status 0, 2, 3, 9, 12, 16. */
 uint32_t wg_verify(const wg_params *params, const uint8_t *graph, size_t length, const uint64_t *weights,
                    size_t weighted, uint64_t damping, const uint64_t *low, size_t low_words, wg_wide *left,
                    uint64_t *page, wg_fault *fault);
