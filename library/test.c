@@ -13,7 +13,23 @@
 #include <sys/mman.h>
 #include "webgraph.h"
 
-/* A library may be without these. */
+/* A library may be without these, and then its header is too. */
+uint32_t wg_read_range(const wg_params *params, const uint8_t *graph, size_t length, const uint64_t *places, size_t
+    count, uint64_t first, uint64_t *ends, size_t how_many, uint64_t *out, size_t room, uint64_t *done, wg_fault
+    *fault);
+uint32_t wg_read_outdegrees(const wg_params *params, const uint8_t *graph, size_t length, uint64_t *outdegrees, size_t
+    count, wg_fault *fault);
+uint32_t wg_check(const wg_params *params, const uint8_t *graph, size_t length, wg_fault *fault);
+uint32_t wg_check_offsets(const wg_params *params, const uint8_t *graph, size_t length, const uint8_t *file, size_t
+    file_length, wg_fault *fault);
+uint32_t wg_write_offsets(const wg_params *params, const uint64_t *places, size_t count, uint8_t *out, size_t room,
+    uint64_t *length);
+uint32_t wg_rank(const wg_params *params, const uint8_t *graph, size_t length, const uint64_t *weights, size_t
+    weighted, uint64_t damping, uint64_t rounds, uint64_t *low, size_t low_words, uint64_t *high, size_t high_words,
+    wg_fault *fault);
+uint32_t wg_verify(const wg_params *params, const uint8_t *graph, size_t length, const uint64_t *weights, size_t
+    weighted, uint64_t damping, const uint64_t *low, size_t low_words, wg_wide *left, uint64_t *page, wg_fault
+    *fault);
 #pragma weak wg_read_range
 #pragma weak wg_read_outdegrees
 #pragma weak wg_check
