@@ -158,9 +158,9 @@ class Archive:
         """The whole graph, validated: `starts` of the shape (nodes + 1,), and `all` of the shape (arcs,).
 
         The successors of page x are all[starts[x]:starts[x + 1]]. Several threads take a range of pages each, of some
-        as many bits, and twice the memory.
+        as many bits, and twice the memory; a library without `wg_read_range` does it by one.
         """
-        if threads > 1 and len(self):
+        if threads > 1 and len(self) and hasattr(library, "wg_read_range"):
             cuts = numpy.searchsorted(self.places, numpy.linspace(0, int(self.places[-1]), threads + 1)[1:-1])
             cuts = [0, *numpy.minimum(cuts, len(self)).tolist(), len(self)]
             try:

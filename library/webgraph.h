@@ -128,7 +128,8 @@ uint32_t wg_write_offsets(const wg_params *params, const uint64_t *places, size_
  * low[2x] + 2^64 * low[2x + 1] to high[2x] + 2^64 * high[2x + 1]. The damping is in thousandths, at most 999, and
  * `rounds` at most 10000; both arrays have 2 * nodes words. The surfer goes on to a page by its weight; `weighted` is
  * nodes, or 0 where each page weighs alike. The arrays are written at status 0 alone. A round reads the graph once;
- * memory is as the program's `rank` has it. Status 0, 2, 3, 9, 12. */
+ * memory is as the program's `rank` has it, and where some of it is refused, wg_rank may do without. Status 0, 2, 3, 9,
+ * 12. */
 uint32_t wg_rank(const wg_params *params, const uint8_t *graph, size_t length, const uint64_t *weights, size_t weighted,
                  uint64_t damping, uint64_t rounds, uint64_t *low, size_t low_words, uint64_t *high, size_t high_words,
                  wg_fault *fault);
