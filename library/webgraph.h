@@ -96,14 +96,6 @@ uint32_t wg_successors_of(const wg_params *params, const uint8_t *graph, size_t 
 uint32_t wg_read_lists(const wg_params *params, const uint8_t *graph, size_t length, uint64_t *ends, size_t nodes,
                        uint64_t *all, size_t arcs, wg_fault *fault);
 
-/* The pages from `first` on, as many as there are ends, as wg_successors_of gives them, and with its statuses. A page
- * costs less than alone, since the lists that it copies from are mostly at hand. Threads that read a range each share
- * the work of a whole graph; but what follows the last record, and the number of arcs, only wg_check and wg_read_lists
- * validate. Status 0, 2, 3, 9, 10, 17, 18. */
-uint32_t wg_read_range(const wg_params *params, const uint8_t *graph, size_t length, const uint64_t *places,
-                       size_t count, uint64_t first, uint64_t *ends, size_t how_many, uint64_t *out, size_t room,
-                       uint64_t *done, wg_fault *fault);
-
 /* The outdegree of each page, the graph validated to its end as wg_read_lists does; `count` is `nodes`. Memory for the
  * lists of a window. At any status but 0 the array has no meaning. Status 0, 2, 3, 9. */
 uint32_t wg_read_outdegrees(const wg_params *params, const uint8_t *graph, size_t length, uint64_t *outdegrees,
@@ -117,12 +109,6 @@ uint32_t wg_check(const wg_params *params, const uint8_t *graph, size_t length, 
  * lists of a window. Status 0, 2, 3, 9. */
 uint32_t wg_check_offsets(const wg_params *params, const uint8_t *graph, size_t length, const uint8_t *file,
                           size_t file_length, wg_fault *fault);
-
-/* The bytes of an .offsets file that tells these places; `count` is nodes + 1. At status 0 the first *length bytes of
- * `out` are written; at 0 and 17 *length is how many bytes the file has. Status 18 if the first place is not 0, if one
- * is less than the one before it, or too far for a graph file. No memory. Status 0, 2, 17, 18. */
-uint32_t wg_write_offsets(const wg_params *params, const uint64_t *places, size_t count, uint8_t *out, size_t room,
-                          uint64_t *length);
 
 /* Bounds of each page's share of 1 by PageRank, after so many rounds, in units of 10^-24: that of page x lies from
  * low[2x] + 2^64 * low[2x + 1] to high[2x] + 2^64 * high[2x + 1]. The damping is in thousandths, at most 999, and
