@@ -1,9 +1,9 @@
 pub mod Cuts
 pub mod Leading
 pub mod Numbers
-pub mod Pairs
 pub mod Parted
 pub mod Places
 pub mod Plain
+pub mod Triples
 pub mod UnitsLemmas
 pub mod UnitsRead

@@ -1,0 +1,8 @@
+use Rattle.std.proofs.Common.{arith}
+use Rattle.wg_num.proofs.Triples.{three_more}
+use Rattle.wg_num.proofs.digits.write_six.Goals as goal
+
+pub returns-clause-digits : goal.returns-clause-digits
+returns-clause-digits c =
+    three_more c.args.value c.write_leading-leading.result _ _ c.if-value-lt1000.false (omega (arith, c.requires.value))
+    c.write_leading-leading.ensures.digits c.write_triple.ensures.written
