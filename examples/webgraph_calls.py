@@ -98,7 +98,7 @@ _CALLS = {
     "wg_read_properties": "AWA", "wg_read_offsets": "AAWAWA", "wg_successors": "AAWAWWAWAA",
     "wg_successors_of": "AAWAWAWAWAWAA", "wg_read_lists": "AAWAWAWA", "wg_read_range": "AAWAWWAWAWAA",
     "wg_read_outdegrees": "AAWAWA", "wg_check_offsets": "AAWAWA", "wg_rank": "AAWAWWWAWAWA",
-    "wg_verify": "AAWAWWAWAAA",
+    "wg_verify": "AAWAWWAWAAA", "wg_write_offsets": "AAWAWA",
 }
 
 

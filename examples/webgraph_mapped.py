@@ -33,7 +33,7 @@ import ctypes
 import operator
 import os
 from collections.abc import Callable, Iterator, Sequence
-from concurrent.futures import ThreadPoolExecutor
+from concurrent.futures import Future, ThreadPoolExecutor
 from ctypes import byref
 from fractions import Fraction
 from pathlib import Path
@@ -50,8 +50,24 @@ from webgraph_calls import (  # noqa: F401, for those who catch them
 if TYPE_CHECKING:
     import scipy.sparse
 
-# How many pages an iteration reads at a time.
-BLOCK = 1 << 12
+# How many pages an iteration reads at a time, and about how many arcs a thread.
+PAGES = 1 << 12
+ARCS = 1 << 16
+
+
+def write_offsets(base: Union[str, os.PathLike[str]]) -> None:
+    """Writes BASE.offsets, for an archive that came without: the program validates it, and says where records begin."""
+    parts = [numpy.fromstring(text, dtype=numpy.uint64, sep=" ") for text in webgraph.texts("offsets", base)]
+    places, text = numpy.concatenate(parts), Path(f"{base}.properties").read_bytes()
+    params, length, status, file = Params(), ctypes.c_uint64(), 17, numpy.empty(1 << 12, dtype=numpy.uint8)
+    library.wg_read_properties(text, len(text), byref(params))
+    while status == 17:
+        file = numpy.empty(2 * len(file), dtype=numpy.uint8)
+        status = library.wg_write_offsets(byref(params), *lent(places), *lent(file), byref(length))
+    if status:
+        raise ERRORS[status](f"{base}: status {status}")
+    with open(f"{base}.offsets", "xb") as out:
+        out.write(file[:length.value])
 
 
 class Archive:
@@ -108,22 +124,30 @@ class Archive:
                 return out[:outdegree.value].copy()
             room = outdegree.value
 
-    def _several(self, pages: Sequence[int], call: Callable) -> tuple[numpy.ndarray, numpy.ndarray]:
-        starts = numpy.zeros(len(pages) + 1, dtype=numpy.uint64)
-        pieces, first, used, done, fault = [], 0, 0, ctypes.c_uint64(), Fault()
-        room = 1024 + 5 * self.arcs * len(pages) // (4 * max(len(self), 1))
-        while True:
+    def _done(self, status: int, done: ctypes.c_uint64, fault: Fault, pages: Sequence[int]) -> int:
+        """How many lists a call has read, if it read all, or as many as there was room for."""
+        if status not in (0, 17):
+            self._accept(status, fault, pages[min(done.value, len(pages) - 1)])
+        return done.value
+
+    def _range(self, first: int, ends: numpy.ndarray, out: numpy.ndarray) -> int:
+        """Reads the lists of the pages from `first` on, as many as `ends` is long, and says how many were read."""
+        done, fault = ctypes.c_uint64(), Fault()
+        status = library.wg_read_range(*self._lent, first, *lent(ends), *lent(out), byref(done), byref(fault))
+        return self._done(status, done, fault, range(first, first + len(ends)))
+
+    def _several(self, count: int, call: Callable[..., int]) -> tuple[numpy.ndarray, numpy.ndarray]:
+        starts = numpy.zeros(count + 1, dtype=numpy.uint64)
+        pieces, first, used = [], 0, 0
+        room = 1024 + 5 * self.arcs * count // (4 * max(len(self), 1))
+        while first < count:
             out, ends = numpy.empty(room, dtype=numpy.uint64), starts[first + 1:]
-            status = call(first, ends, out, byref(done), byref(fault))
-            if status not in (0, 17):
-                self._accept(status, fault, pages[min(first + done.value, len(pages) - 1)])
-            count = int(ends[done.value - 1]) if done.value else 0
-            ends[:done.value] += numpy.uint64(used)
-            first, used = first + done.value, used + count
-            pieces.append(out[:count])
-            if status == 0:
-                return starts, pieces[0] if len(pieces) == 1 else numpy.concatenate(pieces)
-            room = room if done.value else 2 * room
+            done = call(first, ends, out)
+            pieces.append(out[:int(ends[done - 1]) if done else 0])
+            ends[:done] += numpy.uint64(used)
+            first, used = first + done, used + len(pieces[-1])
+            room = room if done else 2 * room
+        return starts, pieces[0] if len(pieces) == 1 else numpy.concatenate([*pieces, words([])])
 
     def successors(self, pages: Sequence[int]) -> tuple[numpy.ndarray, numpy.ndarray]:
         """The successors of several pages, in any order: `starts` of the shape (len(pages) + 1,), and `all`.
@@ -131,66 +155,103 @@ class Archive:
         Those of pages[i] are all[starts[i]:starts[i + 1]].
         """
         pages = words(pages)
-        return self._several(pages, lambda first, ends, out, done, fault: library.wg_successors_of(
-            *self._lent, *lent(pages[first:]), *lent(ends), *lent(out), done, fault))
+
+        def call(first: int, ends: numpy.ndarray, out: numpy.ndarray) -> int:
+            done, fault, rest = ctypes.c_uint64(), Fault(), pages[first:]
+            return self._done(library.wg_successors_of(*self._lent, *lent(rest), *lent(ends), *lent(out), byref(done),
+                                                       byref(fault)), done, fault, rest)
+
+        return self._several(len(pages), call)
 
     def pages(self, first: int, last: int) -> tuple[numpy.ndarray, numpy.ndarray]:
         """The successors of the pages from `first` to before `last`, as `successors` gives them."""
         if not 0 <= first <= last <= len(self):
             self._accept(10, None, first if not 0 <= first < len(self) else last)
-        if not hasattr(library, "wg_read_range"):
-            return self.successors(numpy.arange(first, last, dtype=numpy.uint64))
-        return self._several(range(first, last), lambda begin, ends, out, done, fault: library.wg_read_range(
-            *self._lent, first + begin, *lent(ends), *lent(out), done, fault))
+        return self._several(last - first, lambda begin, ends, out: self._range(first + begin, ends, out))
 
     def __iter__(self) -> Iterator[numpy.ndarray]:
         """The successors of each page, in order; they are read some pages at a time."""
-        for first in range(0, len(self), BLOCK):
-            starts, found = self.pages(first, min(first + BLOCK, len(self)))
-            yield from numpy.split(found, starts[1:-1].astype(numpy.int64))
+        for first in range(0, len(self), PAGES):
+            starts, found = self.pages(first, min(first + PAGES, len(self)))
+            bounds = starts.tolist()
+            yield from (found[begin:end] for begin, end in zip(bounds, bounds[1:]))
 
     def _ends(self) -> bool:
         """Whether what follows the last record is fewer than 128 bits, all 0."""
         left = 8 * len(self._graph) - int(self.places[-1])
         return 0 <= left < 128 and int.from_bytes(self._graph[-16:].tobytes(), "big") & ((1 << left) - 1) == 0
 
+    def _by_blocks(self, threads: int, starts: numpy.ndarray, *arrays: numpy.ndarray) -> bool:
+        """Reads all lists once, by blocks of pages, and puts them into the first of the arrays, and 1 into others.
+
+        A thread takes the next block, reads it into room of its own, and copies it once the blocks before are read.
+        """
+        blocks = 1 + min(self.arcs, 8 * len(self._graph)) // ARCS
+        inner = numpy.linspace(0, int(self.places[-1]), blocks + 1, dtype=numpy.uint64)[1:-1]
+        cuts = sorted({0, *numpy.searchsorted(self.places[:-1], inner).tolist(), len(self)})
+        befores: list[Future[int]] = [Future() for _ in cuts]  # how many arcs the pages before each cut have
+        befores[0].set_result(0)
+        rooms = [numpy.empty(5 * ARCS // 4, dtype=numpy.uint64) for _ in range(threads)]
+
+        def read(block: int) -> None:
+            (page, last), room = cuts[block:block + 2], rooms.pop()
+            try:
+                after = None
+                while page < last:
+                    ends = starts[page + 1:last + 1]
+                    done = self._range(page, ends, room)
+                    before = befores[block].result() if after is None else after
+                    count = int(ends[done - 1]) if done else 0
+                    page, after = page + done, before + count
+                    if after > self.arcs:
+                        raise BadArchive
+                    if page == last:
+                        befores[block + 1].set_result(after)
+                    ends[:done] += numpy.uint64(before)
+                    for array, values in zip(arrays, (room[:count], 1)):
+                        array[before:after] = values
+                    room = room if done else numpy.empty(2 * len(room), dtype=numpy.uint64)
+            except BaseException as error:
+                if not befores[block + 1].done():
+                    befores[block + 1].set_exception(error)
+                raise
+            finally:
+                rooms.append(room)
+
+        try:
+            with ThreadPoolExecutor(threads) as pool:
+                for _ in pool.map(read, range(len(cuts) - 1)):
+                    pass
+        except (BadArchive, BadPlaces):
+            return False
+        return befores[-1].result() == self.arcs and self._ends()
+
     def lists(self, threads: int = 1) -> tuple[numpy.ndarray, numpy.ndarray]:
         """The whole graph, validated: `starts` of the shape (nodes + 1,), and `all` of the shape (arcs,).
 
-        The successors of page x are all[starts[x]:starts[x + 1]]. Several threads take a range of pages each, of some
-        as many bits, and twice the memory; a library without `wg_read_range` does it by one.
+        The successors of page x are all[starts[x]:starts[x + 1]].
         """
-        if threads > 1 and len(self) and hasattr(library, "wg_read_range"):
-            cuts = numpy.searchsorted(self.places, numpy.linspace(0, int(self.places[-1]), threads + 1)[1:-1])
-            cuts = [0, *numpy.minimum(cuts, len(self)).tolist(), len(self)]
-            try:
-                with ThreadPoolExecutor(threads) as pool:
-                    parts = list(pool.map(self.pages, cuts[:-1], cuts[1:]))
-            except (BadArchive, BadPlaces):
-                parts = []
-            befores = numpy.cumsum([0, *(len(found) for _, found in parts)])
-            if parts and befores[-1] == self.arcs and self._ends():
-                starts = [part[1:] + numpy.uint64(before) for (part, _), before in zip(parts, befores.tolist())]
-                return (numpy.concatenate([numpy.zeros(1, dtype=numpy.uint64), *starts]),
-                        numpy.concatenate([found for _, found in parts]))
-            # One pass finds the first fault.
         starts, found = numpy.zeros(len(self) + 1, dtype=numpy.uint64), numpy.empty(self.arcs, dtype=numpy.uint64)
-        fault = Fault()
-        self._accept(library.wg_read_lists(*self._whole, *lent(starts[1:]), *lent(found), byref(fault)), fault)
+        if threads == 1 or not self._by_blocks(threads, starts, found):
+            # One pass finds the first fault.
+            fault = Fault()
+            self._accept(library.wg_read_lists(*self._whole, *lent(starts[1:]), *lent(found), byref(fault)), fault)
         return starts, found
 
     def csr(self, threads: int = 1) -> scipy.sparse.csr_matrix:
         """The square matrix of float64 that has a row for each page, and 1 in the columns of its successors."""
         from scipy.sparse import csr_matrix
 
-        starts, found = self.lists(threads)
-        rows = numpy.ones(len(found)), found.view(numpy.int64), starts.view(numpy.int64)
-        return csr_matrix(rows, shape=(len(self), len(self)))
+        kind = numpy.int32 if max(self.arcs, len(self)) < 2**31 else numpy.int64
+        starts, found = numpy.zeros(len(self) + 1, dtype=numpy.uint64), numpy.empty(self.arcs, dtype=kind)
+        ones = numpy.empty(self.arcs)
+        if threads == 1 or not self._by_blocks(threads, starts, found, ones):
+            starts, found = self.lists()
+            ones.fill(1)
+        return csr_matrix((ones, found.astype(kind, copy=False), starts.astype(kind)), shape=(len(self), len(self)))
 
     def outdegrees(self) -> numpy.ndarray:
         """How many successors each page has, the graph validated: the shape (nodes,)."""
-        if not hasattr(library, "wg_read_outdegrees"):
-            return numpy.diff(self.lists()[0])
         found, fault = numpy.empty(len(self), dtype=numpy.uint64), Fault()
         self._accept(library.wg_read_outdegrees(*self._whole, *lent(found), byref(fault)), fault)
         return found

@@ -20,6 +20,8 @@ OPTIONS = (
     ("--residuals=nibble", "--window=1", "--chain=0"),
 )
 WHOLE = 10**24
+# How many pages the range has that test.c tells.
+RANGE = 4
 # The arguments of `library/test`.
 given = argparse.Namespace()
 
@@ -158,8 +160,19 @@ def wanted_ranks(base, nodes):
             yield f"{dash}raised {status}" + (f" {page}" if status == 16 else "")
 
 
-def wanted(base, pages, calls):
-    """The lines that test.c has to tell of an archive, by a library with these calls. None is for any line."""
+def wanted_range(base, first):
+    """The pages of a range that test.c tells are asked for one by one, up to the first that is refused."""
+    lists, status, fault = [], 0, ""
+    while status == 0 and len(lists) < RANGE:
+        status, printed, fault = asked("spot", base, first + len(lists))
+        lists += [printed.split()[1:]] if status == 0 else []
+    ends = itertools.accumulate(map(len, lists))
+    yield f"range {first} " + " ".join([line_of("is", status, fault), *map(str, ends)])
+    yield " ".join(["listed", *itertools.chain.from_iterable(lists)])
+
+
+def wanted(base, pages):
+    """The lines that test.c has to tell of an archive. None is for any line."""
     status, _, fault = asked("check", base)
     yield f"properties {8 if status == 8 else 0}"
     if status == 8:
@@ -173,16 +186,15 @@ def wanted(base, pages, calls):
         spots = []
     else:
         yield line_of("offsets", 0, "", asked("offsets", base)[1].split()) if status == 0 else None
-        if "wg_write_offsets" in calls:
-            yield None
+        yield None  # the file, which is compared with the archive's
     yield line_of("lists", graph, first, itertools.accumulate(map(len, lists)))
     yield "all" + "".join(f" {to}" for line in lists for to in line)
-    if "wg_check_offsets" in calls:
-        yield line_of("check", status, fault)
-    if "wg_rank" in calls:
-        yield from wanted_ranks(base, len(lists))
+    yield line_of("check", status, fault)
+    yield from wanted_ranks(base, len(lists))
     for page, (status, printed, fault) in zip(pages, spots):
         yield f"page {page} " + line_of("is", status, fault, printed.split()[1:])
+    if spots:
+        yield from wanted_range(base, pages[1])
 
 
 def pages_of(base):
@@ -191,7 +203,7 @@ def pages_of(base):
     return [0, *sorted({nodes // 3, max(nodes, 1) - 1, nodes})]
 
 
-def difference(base, calls):
+def difference(base):
     """A line for what differs, or None."""
     told = [line.rstrip() for line in Path(f"{base}.told").read_text().splitlines()]
     half = told[:len(told) // 2]
@@ -199,7 +211,7 @@ def difference(base, calls):
         return f"{base}: told otherwise in other buffers"
     if half == ["properties 0"]:
         return None  # larger than test.c reads
-    for line, want in itertools.zip_longest(half, wanted(base, pages_of(base), calls)):
+    for line, want in itertools.zip_longest(half, wanted(base, pages_of(base))):
         if line is None or want is not None and line != want:
             return f"{base}: {str(line)[:150]!r}, and the program {str(want)[:150]!r}"
         if line.startswith("file"):

@@ -13,34 +13,11 @@
 #include <sys/mman.h>
 #include "webgraph.h"
 
-/* A library may be without these, and then its header is too. */
-uint32_t wg_read_range(const wg_params *params, const uint8_t *graph, size_t length, const uint64_t *places, size_t
-    count, uint64_t first, uint64_t *ends, size_t how_many, uint64_t *out, size_t room, uint64_t *done, wg_fault
-    *fault);
-uint32_t wg_read_outdegrees(const wg_params *params, const uint8_t *graph, size_t length, uint64_t *outdegrees, size_t
-    count, wg_fault *fault);
-uint32_t wg_check(const wg_params *params, const uint8_t *graph, size_t length, wg_fault *fault);
-uint32_t wg_check_offsets(const wg_params *params, const uint8_t *graph, size_t length, const uint8_t *file, size_t
-    file_length, wg_fault *fault);
-uint32_t wg_write_offsets(const wg_params *params, const uint64_t *places, size_t count, uint8_t *out, size_t room,
-    uint64_t *length);
-uint32_t wg_rank(const wg_params *params, const uint8_t *graph, size_t length, const uint64_t *weights, size_t
-    weighted, uint64_t damping, uint64_t rounds, uint64_t *low, size_t low_words, uint64_t *high, size_t high_words,
-    wg_fault *fault);
-uint32_t wg_verify(const wg_params *params, const uint8_t *graph, size_t length, const uint64_t *weights, size_t
-    weighted, uint64_t damping, const uint64_t *low, size_t low_words, wg_wide *left, uint64_t *page, wg_fault
-    *fault);
-#pragma weak wg_read_range
-#pragma weak wg_read_outdegrees
-#pragma weak wg_check
-#pragma weak wg_check_offsets
-#pragma weak wg_write_offsets
-#pragma weak wg_rank
-#pragma weak wg_verify
-
 #define PAGE 4096u
 #define FILL 0xa5
 #define WEIGHED 2
+#define RANGE 4 /* the pages of a range that is told */
+#define WIDE (1 << 16)
 
 static __thread long fail_at, allocations;
 static __thread int at_front;
@@ -177,20 +154,57 @@ static void pages_alone(archive *a, const uint64_t *pages, size_t count) {
                                   a->fault), (void)0);
     if (status != first && status != WG_NO_ROOM) die(base, "several", status);
     if (*outdegree != read || memcmp(out.at, wide.at, 8 * used)) die(base, "several differ", status);
-    if (used) {
-        WANT(first == 0 || read ? WG_NO_ROOM : first,
-             wg_successors_of(GRAPH, PLACES, u64(asked), count, u64(ends), count, u64(out), used - 1, outdegree,
-                              a->fault));
-    }
+    if (used) WANT(WG_NO_ROOM, wg_successors_of(GRAPH, PLACES, u64(asked), count, u64(ends), count, u64(out), used - 1,
+                                                outdegree, a->fault));
     if (count) WANT(WG_USAGE, wg_successors_of(GRAPH, PLACES, u64(asked), count, u64(ends), count - 1, u64(out), used,
                                                outdegree, a->fault));
     drop(out), drop(wide), drop(ends), drop(asked), drop(told_at);
 }
 
+/* A range gives what the same pages give by their numbers. Where places fall, each call may stop at another one. */
+static void range_alike(archive *a, uint64_t first, size_t count, size_t room, int falls) {
+    buffer pages = words_of(count), done = words_of(2), ends[2] = {words_of(count), words_of(count)},
+           out[2] = {words_of(room), words_of(room)};
+    const char *base = a->base;
+    unsigned status, other;
+    for (size_t i = 0; i < count; i++) u64(pages)[i] = first + i;
+    CALL(status, wg_read_range(GRAPH, PLACES, first, u64(ends[0]), count, u64(out[0]), room, u64(done), a->fault),
+         (void)0);
+    wg_fault is = *a->fault, *was = a->fault;
+    other = wg_successors_of(GRAPH, PLACES, u64(pages), count, u64(ends[1]), count, u64(out[1]), room, u64(done) + 1,
+                             was);
+    uint64_t read = u64(done)[0] < u64(done)[1] ? u64(done)[0] : u64(done)[1];
+    int alike = status == other && u64(done)[0] == u64(done)[1];
+    if (alike && status == WG_BAD_ARCHIVE) alike = !memcmp(&is, was, 12) && !memcmp(&is.page, &was->page, 32);
+    if (!alike && !(falls && status > WG_USAGE && other > WG_USAGE)) die(base, "range", status);
+    if (memcmp(ends[0].at, ends[1].at, 8 * read)) die(base, "the ends of a range", status);
+    if (read && memcmp(out[0].at, out[1].at, 8 * u64(ends[0])[read - 1])) die(base, "a range", status);
+    for (int i = 0; i < 2; i++) drop(ends[i]), drop(out[i]);
+    drop(pages), drop(done);
+}
+
+static void ranges(archive *a, const uint64_t *pages, size_t count) {
+    const char *base = a->base;
+    uint64_t n = a->params->nodes, first = pages[1];
+    buffer ends = words_of(RANGE), out = words_of(WIDE), done = words_of(1);
+    unsigned status;
+    CALL(status, wg_read_range(GRAPH, PLACES, first, u64(ends), RANGE, u64(out), WIDE, u64(done), a->fault), (void)0);
+    fprintf(a->told, "range %llu ", (unsigned long long)first);
+    tell(a->told, "is", status, a->fault);
+    tell_words(a->told, u64(ends), u64(done)[0]);
+    fprintf(a->told, "listed");
+    tell_words(a->told, u64(out), u64(done)[0] ? u64(ends)[u64(done)[0] - 1] : 0);
+    for (size_t i = 0; i < count; i++)
+        for (size_t room = 0; room < 1 << 13; room = 5 * room + 1) range_alike(a, pages[i], 9, room, 0);
+    range_alike(a, 0, n, WIDE, 0), range_alike(a, n, 0, 0, 0), range_alike(a, UINT64_MAX, 1, 0, 0);
+    WANT(WG_USAGE, wg_read_range(GRAPH, u64(a->places), n, first, u64(ends), RANGE, u64(out), 1, u64(done), a->fault));
+    drop(ends), drop(out), drop(done);
+}
+
 static void graph_whole(archive *a) {
     const char *base = a->base;
     uint64_t n = a->params->nodes, m = a->params->arcs;
-    buffer ends = words_of(n), all = words_of(m), degrees = words_of(n), done = words_of(1);
+    buffer ends = words_of(n), all = words_of(m), degrees = words_of(n);
     unsigned status, other;
     CALL(status, wg_read_lists(GRAPH, u64(ends), n, u64(all), m, a->fault), (void)0);
     tell(a->told, "lists", status, a->fault);
@@ -201,35 +215,23 @@ static void graph_whole(archive *a) {
     WANT(WG_USAGE, wg_read_lists(GRAPH, u64(ends), n, u64(all), m + 1, a->fault));
     if (n) WANT(WG_USAGE, wg_read_lists(GRAPH, u64(ends), n - 1, u64(all), m, a->fault));
     if (m) WANT(WG_USAGE, wg_read_lists(GRAPH, u64(ends), n, u64(all), m - 1, a->fault));
-    if (wg_check) {
-        CALL(other, wg_check(GRAPH, a->fault), (void)0);
-        if (other != status) die(base, "wg_check", other);
+    CALL(other, wg_check(GRAPH, a->fault), (void)0);
+    if (other != status) die(base, "wg_check", other);
+    CALL(other, wg_read_outdegrees(GRAPH, u64(degrees), n, a->fault), (void)0);
+    if (other != status) die(base, "wg_read_outdegrees", other);
+    for (uint64_t i = 0; !status && i < n; i++)
+        if (u64(degrees)[i] != u64(ends)[i] - (i ? u64(ends)[i - 1] : 0)) die(base, "outdegrees", 0);
+    WANT(WG_USAGE, wg_read_outdegrees(GRAPH, u64(degrees), n + 1, a->fault));
+    CALL(other, wg_check_offsets(GRAPH, a->file.at, a->file.bytes, a->fault), (void)0);
+    tell(a->told, "check", other, a->fault);
+    fputc('\n', a->told);
+    if (other == 0) {
+        buffer ends2 = words_of(n), all2 = words_of(m), done = words_of(1);
+        WANT(0, wg_read_range(GRAPH, PLACES, 0, u64(ends2), n, u64(all2), m, u64(done), a->fault));
+        if (memcmp(ends.at, ends2.at, 8 * n) || memcmp(all.at, all2.at, 8 * m)) die(base, "the whole range", 0);
+        drop(ends2), drop(all2), drop(done);
     }
-    if (wg_read_outdegrees) {
-        CALL(other, wg_read_outdegrees(GRAPH, u64(degrees), n, a->fault), (void)0);
-        if (other != status) die(base, "wg_read_outdegrees", other);
-        for (uint64_t i = 0; !status && i < n; i++)
-            if (u64(degrees)[i] != u64(ends)[i] - (i ? u64(ends)[i - 1] : 0)) die(base, "outdegrees", 0);
-        WANT(WG_USAGE, wg_read_outdegrees(GRAPH, u64(degrees), n + 1, a->fault));
-    }
-    if (wg_check_offsets) {
-        CALL(other, wg_check_offsets(GRAPH, a->file.at, a->file.bytes, a->fault), (void)0);
-        tell(a->told, "check", other, a->fault);
-        fputc('\n', a->told);
-        if (wg_read_range && other == 0 && a->has_places) {
-            buffer ends2 = words_of(n), all2 = words_of(m);
-            CALL(other, wg_read_range(GRAPH, PLACES, 0, u64(ends2), n, u64(all2), m, u64(done), a->fault), (void)0);
-            if (other || u64(done)[0] != n || memcmp(ends.at, ends2.at, 8 * n) || memcmp(all.at, all2.at, 8 * m))
-                die(base, "wg_read_range", other);
-            uint64_t half = n / 2, before = half ? u64(ends)[half - 1] : 0;
-            WANT(0, wg_read_range(GRAPH, PLACES, half, u64(ends2), n - half, u64(all2), m, u64(done), a->fault));
-            if (memcmp(u64(all) + before, all2.at, 8 * (m - before))) die(base, "range", 0);
-            buffer end = words_of(1);
-            WANT(WG_NO_PAGE, wg_read_range(GRAPH, PLACES, n, u64(end), 1, u64(all2), m, u64(done), a->fault));
-            drop(ends2), drop(all2), drop(end);
-        }
-    }
-    drop(ends), drop(all), drop(degrees), drop(done);
+    drop(ends), drop(all), drop(degrees);
 }
 
 static void ranks(archive *a) {
@@ -260,7 +262,7 @@ static void ranks(archive *a) {
         tell_words(a->told, u64(low), status ? 0 : 2 * n);
         fprintf(a->told, "high");
         tell_words(a->told, u64(high), status ? 0 : 2 * n);
-        if (!wg_verify || status) continue;
+        if (status) continue;
         CALL(status, wg_verify(GRAPH, u64(weights), length, 800, u64(low), 2 * n, (wg_wide *)left.at, u64(page),
                                a->fault), (void)0);
         tell(a->told, weighed ? "weighed-verify" : "verify", status, a->fault);
@@ -278,6 +280,29 @@ static void ranks(archive *a) {
     drop(low), drop(high), drop(weights), drop(left), drop(page);
 }
 
+/* The file that these places have, by more and more room, and then by just as much as it takes. */
+static void offsets_again(archive *a) {
+    const char *base = a->base;
+    buffer length = words_of(1);
+    unsigned status = WG_NO_ROOM;
+    for (size_t room = 0; status == WG_NO_ROOM; room = 2 * room + 1) {
+        buffer out = buffer_of(room);
+        CALL(status, wg_write_offsets(a->params, PLACES, out.at, room, u64(length)), (void)0);
+        if (status && status != WG_NO_ROOM) die(base, "wg_write_offsets", status);
+        drop(out);
+    }
+    size_t bytes = u64(length)[0];
+    buffer out = buffer_of(bytes);
+    if (bytes) WANT(WG_NO_ROOM, wg_write_offsets(a->params, PLACES, out.at, bytes - 1, u64(length)));
+    WANT(WG_USAGE, wg_write_offsets(a->params, u64(a->places), a->params->nodes, out.at, bytes, u64(length)));
+    WANT(0, wg_write_offsets(a->params, PLACES, out.at, bytes, u64(length)));
+    if (u64(length)[0] != bytes) die(base, "the length of the offsets", 0);
+    fprintf(a->told, "file");
+    for (size_t i = 0; i < bytes; i++) fprintf(a->told, "%s%02x", i ? "" : " ", out.at[i]);
+    fputc('\n', a->told);
+    drop(out), drop(length);
+}
+
 static void places_of(archive *a) {
     const char *base = a->base;
     uint64_t n = a->params->nodes;
@@ -287,16 +312,7 @@ static void places_of(archive *a) {
     a->has_places = status == 0;
     WANT(WG_USAGE, wg_read_offsets(a->params, a->file.at, a->file.bytes, u64(a->places), n, a->fault));
     WANT(WG_USAGE, wg_read_offsets(a->params, a->file.at, a->file.bytes, u64(a->places), n + 2, a->fault));
-    if (!wg_write_offsets || status) return;
-    buffer length = words_of(1), none = buffer_of(0);
-    status = wg_write_offsets(a->params, PLACES, none.at, 0, u64(length));
-    if (status != WG_NO_ROOM) die(base, "wg_write_offsets", status);
-    buffer out = buffer_of(u64(length)[0]);
-    WANT(0, wg_write_offsets(a->params, PLACES, out.at, out.bytes, u64(length)));
-    fprintf(a->told, "file");
-    for (size_t i = 0; i < out.bytes; i++) fprintf(a->told, "%s%02x", i ? "" : " ", out.at[i]);
-    fputc('\n', a->told);
-    drop(out), drop(none), drop(length);
+    if (!status) offsets_again(a);
 }
 
 /* Parameters out of their limits are refused, and places that fall are no harm. */
@@ -325,7 +341,13 @@ static void misuse(archive *a, uint64_t page) {
         if (status && !untouched(wide)) die(base, "places touched", status);
         memset(wide.at, FILL, wide.bytes);
     }
-    drop(wide), drop(told_at), drop(out);
+    range_alike(a, 0, kept.nodes < 64 ? kept.nodes + 1 : 64, 1 << 12, 1);
+    buffer file = buffer_of(1 << 16);
+    int falls = 0;
+    for (size_t i = 1; i < a->places.bytes / 8; i++) falls |= places[i] < places[i - 1];
+    unsigned wrote = wg_write_offsets(a->params, PLACES, file.at, file.bytes, u64(told_at));
+    if (wrote != WG_NO_ROOM && !places[0] && (wrote == WG_BAD_PLACES) != falls) die(base, "fallen places", wrote);
+    drop(file), drop(wide), drop(told_at), drop(out);
 }
 
 static void look_at(const char *base, const uint64_t *pages, size_t count, FILE *told) {
@@ -342,8 +364,8 @@ static void look_at(const char *base, const uint64_t *pages, size_t count, FILE 
         a->places = words_of(a->params->nodes + 1);
         places_of(a);
         graph_whole(a);
-        if (wg_rank) ranks(a);
-        if (a->has_places) pages_alone(a, pages, count), misuse(a, pages[0]);
+        ranks(a);
+        if (a->has_places) pages_alone(a, pages, count), ranges(a, pages, count), misuse(a, pages[0]);
         drop(a->places);
     }
     drop(text), drop(a->graph), drop(a->file), drop(a->params_at), drop(a->fault_at);

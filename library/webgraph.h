@@ -74,6 +74,11 @@ uint32_t wg_read_properties(const uint8_t *text, size_t length, wg_params *param
 uint32_t wg_read_offsets(const wg_params *params, const uint8_t *file, size_t length, uint64_t *places, size_t count,
                          wg_fault *fault);
 
+/* The bytes of the .offsets file of these places, in the code of the parameters: `count` is nodes + 1. At status 0 they
+ * are the first *length of `file`; after 17 a call with more room may be made. Status 0, 2, 17, 18. */
+uint32_t wg_write_offsets(const wg_params *params, const uint64_t *places, size_t count, uint8_t *file, size_t room,
+                          uint64_t *length);
+
 /* The successors of one page, ascending, of an archive that nobody has checked. Only the records of the page's chain of
  * references are read, and these are validated; `count` is nodes + 1. At status 0 the first *outdegree numbers of `out`
  * are written, and at any other none; at 0 and 17 *outdegree is how many successors there are, so that an array of that
@@ -89,6 +94,14 @@ uint32_t wg_successors(const wg_params *params, const uint8_t *graph, size_t len
 uint32_t wg_successors_of(const wg_params *params, const uint8_t *graph, size_t length, const uint64_t *places,
                           size_t count, const uint64_t *pages, size_t how_many, uint64_t *ends, size_t ends_room,
                           uint64_t *out, size_t room, uint64_t *done, wg_fault *fault);
+
+/* The successors of the pages from `first` to before first + pages, in order, as wg_successors_of gives them; but what
+ * a list copies from, where it is of the range, is not read again: each page costs its own record. *done lists stand in
+ * the arrays; if the status is not 0, page first + *done is why, and after 17 a call from there on, with an empty
+ * array, goes on. Status 0, 2, 3, 9, 10, 17, 18. */
+uint32_t wg_read_range(const wg_params *params, const uint8_t *graph, size_t length, const uint64_t *places,
+                       size_t count, uint64_t first, uint64_t *ends, size_t pages, uint64_t *out, size_t room,
+                       uint64_t *done, wg_fault *fault);
 
 /* The whole graph, validated: the successors of page x end before all[ends[x]], and begin where those of x - 1 end, or
  * at all[0]. `nodes` and `arcs` are those of the parameters. Memory for the lists of a window. At any status but 0 the
