@@ -74,6 +74,14 @@ uint32_t wg_read_properties(const uint8_t *text, size_t length, wg_params *param
 uint32_t wg_read_offsets(const wg_params *params, const uint8_t *file, size_t length, uint64_t *places, size_t count,
                          wg_fault *fault);
 
+/* The .offsets file of places, at the front of an array: `count` is nodes + 1, the first place is 0, and none is past
+ * the last bit that a graph file may have, 2^49; else the status is 2, or 18 where a place is below the one before. At
+ * status 0 the first *length bytes are the file, and the others are as before; at 17 the file is longer than `room`
+ * (16 * count is enough), *length is not told, and what stands in the array has no meaning; at 2 and 18 nothing is
+ * written. It takes no memory. Status 0, 2, 17, 18. */
+uint32_t wg_write_offsets(const wg_params *params, const uint64_t *places, size_t count, uint8_t *file, size_t room,
+                          uint64_t *length);
+
 /* The successors of one page, ascending, of an archive that nobody has checked. Only the records of the page's chain of
  * references are read, and these are validated; `count` is nodes + 1. At status 0 the first *outdegree numbers of `out`
  * are written, and at any other none; at 0 and 17 *outdegree is how many successors there are, so that an array of that
