@@ -74,8 +74,11 @@ uint32_t wg_read_properties(const uint8_t *text, size_t length, wg_params *param
 uint32_t wg_read_offsets(const wg_params *params, const uint8_t *file, size_t length, uint64_t *places, size_t count,
                          wg_fault *fault);
 
-/* The bytes of the .offsets file of these places, in the code of the parameters: `count` is nodes + 1. At status 0 they
- * are the first *length of `file`; after 17 a call with more room may be made. Status 0, 2, 17, 18. */
+/* The .offsets file of places, at the front of an array: `count` is nodes + 1, the first place is 0, and none is past
+ * the last bit that a graph file may have, 2^49; else the status is 2, or 18 where a place is below the one before. At
+ * status 0 the first *length bytes are the file, and the others are as before; at 17 the file is longer than `room`
+ * (16 * count is enough), *length is not told, and what stands in the array has no meaning; at 2 and 18 nothing is
+ * written. It takes no memory. Status 0, 2, 17, 18. */
 uint32_t wg_write_offsets(const wg_params *params, const uint64_t *places, size_t count, uint8_t *file, size_t room,
                           uint64_t *length);
 

@@ -17,6 +17,7 @@ mod ranking;
 mod spot;
 mod status;
 mod verifying;
+mod writing;
 
 pub use fault::WgFault;
 pub use params::WgParams;

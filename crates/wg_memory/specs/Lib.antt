@@ -3,3 +3,4 @@ pub mod Many
 pub mod Checking
 pub mod Ranking
 pub mod Verifying
+pub mod Writing

@@ -12,6 +12,8 @@ mod ranking;
 mod spot;
 mod verifying;
 mod wide;
+mod words;
+mod writing;
 
 pub use checking::{check, check_offsets};
 pub use lists::read_lists;
@@ -23,3 +25,4 @@ pub use ranking::{RankError, copied, lists_of, rank};
 pub use spot::successors;
 pub use verifying::{VerifyError, verify};
 pub use wide::{put_wide, wide_of};
+pub use writing::{Unwritten, write_offsets};
