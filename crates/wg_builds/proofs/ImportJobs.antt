@@ -11,7 +11,8 @@ use Rattle.wg_ascii.specs.Growing.{IsFirst}
 use Rattle.wg_ascii.specs.Reading.{StandsFor}
 use Rattle.wg_ascii.specs.declared.fault.AsciiError.{AsciiError}
 use Rattle.wg_ascii.specs.declared.fault.AsciiError.TheVariants as error
-use Rattle.wg_words.specs.declared.jobs.Job.TheVariants.{Import}
+use Rattle.wg_words.specs.Jobs.{writing}
+use Rattle.wg_words.specs.declared.jobs.Origin.TheVariants.{Import}
 use Rattle.wg_params.specs.declared.layout.Layout.{Layout}
 use Rattle.wg_outcomes.specs.Answers.{IsHindrance, Steps, status_in}
 use Rattle.wg_outcomes.specs.Judged.{status_of, text_then, with_text}
@@ -34,11 +35,11 @@ use Rattle.wg_outcomes.proofs.FileLemmas.{held_goes}
 
 -- an ASCIIGraph text that was not read ends the job
 pub text_unread : (text base : List ℕ) (l : Layout) (td to : Bool) (before after : Outside) (e : Ending) → after.taken ≡ before.taken → LoadsText text td before.files after.files before.counts after.counts (Err e)
-    → Performs (Import text base l) td to before after e.status e.promised
+    → Performs (writing base l (Import text)) td to before after e.status e.promised
 text_unread text base l td to before after e silent h =
-    ends_at (Import text base l) td to before after e silent h.same h.later (λ t r. h.steps t r (λ g. builds l g)) (text_named text) Text IsBadText refl refl h.only h.causes (λ t r. refl)
-    (λ fault. subst (IsRefusal (Import text base l)) (sym fault.2) (record { own = tt; stop = tt; possible = refl }))
-    (λ t fault. subst (λ (s : Status). ArePromised (held_by (input_name (Import text base l)) before.files) s e.promised) (sym fault.2) tt)
+    ends_at (writing base l (Import text)) td to before after e silent h.same h.later (λ t r. h.steps t r (λ g. builds l g)) (text_named text) Text IsBadText refl refl h.only h.causes (λ t r. refl)
+    (λ fault. subst (IsRefusal (writing base l (Import text))) (sym fault.2) (record { own = tt; stop = tt; possible = refl }))
+    (λ t fault. subst (λ (s : Status). ArePromised (held_by (input_name (writing base l (Import text))) before.files) s e.promised) (sym fault.2) tt)
 
 -- other reads came before
 pub text_after : (name : List ℕ) (td : Bool) (f g h : Files) (a b c : List ℕ → Counts) (r : Result Digraph Ending) → g ≡ f → NonDecreasing a b → LoadsText name td g h b c r → LoadsText name td f h a c r

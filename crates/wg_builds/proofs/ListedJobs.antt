@@ -20,7 +20,8 @@ use Rattle.wg_arcs.proofs.ListedLemmas.{all_pages, count_known}
 use Rattle.wg_arcs.proofs.Order.{Arc}
 use Rattle.wg_arcs.proofs.Soundness.{all_read}
 use Rattle.wg_encoder.specs.ArchiveInMemory.{EncodedSoFar, HasEncoded}
-use Rattle.wg_words.specs.declared.jobs.Job.TheVariants.{Build}
+use Rattle.wg_words.specs.Jobs.{writing}
+use Rattle.wg_words.specs.declared.jobs.Origin.TheVariants.{Build}
 use Rattle.wg_outcomes.specs.Answers.{Answers, IsHindrance}
 use Rattle.wg_outcomes.specs.Commands.{builds}
 use Rattle.wg_outcomes.specs.JobFiles.{input_name}
@@ -118,9 +119,9 @@ module _ (name : List ℕ) (n : ℕ) (td : Bool) (files files' : Files) (counts 
 
 -- ---- an arc list that was not read ends the job
 pub list_unread : (arcs base : List ℕ) (n : ℕ) (l : Layout) (td to : Bool) (before after : Outside) (e : Ending) → after.taken ≡ before.taken → LoadsList arcs n td before.files after.files before.counts after.counts (Err e)
-    → Performs (Build arcs base n l) td to before after e.status e.promised
+    → Performs (writing base l (Build arcs n)) td to before after e.status e.promised
 list_unread arcs base n l td to before after e silent h =
-    ends_at (Build arcs base n l) td to before after e silent h.same h.later (λ t r. h.steps t r (λ g. builds l g)) (list_named arcs) ArcList
+    ends_at (writing base l (Build arcs n)) td to before after e silent h.same h.later (λ t r. h.steps t r (λ g. builds l g)) (list_named arcs) ArcList
     (λ x. (line : ℕ) × (kind : ArcsKind) × (x.status ≡ BadArcs line kind)) refl refl h.only h.causes (λ t r. refl)
-    (λ fault. subst (IsRefusal (Build arcs base n l)) (sym fault.2) (record { own = tt; stop = tt; possible = refl }))
-    (λ t fault. subst (λ (s : Status). ArePromised (held_by (input_name (Build arcs base n l)) before.files) s e.promised) (sym fault.2) tt)
+    (λ fault. subst (IsRefusal (writing base l (Build arcs n))) (sym fault.2) (record { own = tt; stop = tt; possible = refl }))
+    (λ t fault. subst (λ (s : Status). ArePromised (held_by (input_name (writing base l (Build arcs n))) before.files) s e.promised) (sym fault.2) tt)

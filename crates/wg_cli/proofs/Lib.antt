@@ -2,5 +2,5 @@ pub mod KeyNames
 pub mod ProvenLemmas
 pub mod SteadyLemmas
 pub mod LineLemmas
-pub mod ArchiveJobs
+pub mod NameLemmas
 pub mod RunLemmas

@@ -17,7 +17,7 @@ use Rattle.wg_outcomes.specs.Causes.{IncreasedAt}
 use Rattle.wg_outcomes.specs.Names.{IsOfInput}
 use Rattle.wg_outcomes.specs.Promised.{IsBadFile}
 use Rattle.wg_words.specs.declared.jobs.RankJob.{RankJob}
-use Rattle.wg_outcomes.specs.Ranked.{bounds_for, ranking_text}
+use Rattle.wg_outcomes.specs.Ranked.{bounds_for, text_for}
 use Rattle.wg_outcomes.specs.Readings.{Readings}
 use Rattle.wg_outcomes.specs.Untold.{PrintsSomeGap, PrintsSomeRanking, RanksAnywhere}
 use Rattle.wg_outcomes.specs.Verified.{Leaves, verified_line}
@@ -91,7 +91,7 @@ wants_since name certificate is a b c later (inr rose) =
 
 -- a ranking by the bounds of a proper graph
 pub some_ranking : (graph : Digraph) (job : RankJob) (given : Option (List ℕ)) → (job.weights ≡ None → given ≡ None) → (b : Intervals) (old new : List ℕ) (r : Readings) → job.rounds ≤ MOST_ROUNDS → job.damping ≤ MOST_DAMPING → IsGraph graph
-    → graph.nodes ≤ MOST_PAGES → AreWeights graph.nodes (weights_of graph.nodes given) → b ≡ bounds_for job graph given → new ≡ old ++ ranking_text r b job.top
+    → graph.nodes ≤ MOST_PAGES → AreWeights graph.nodes (weights_of graph.nodes given) → b ≡ bounds_for job graph given → new ≡ old ++ text_for r job b
     → PrintsSomeRanking r job old new
 some_ranking graph job given alike b old new r few damped proper small heavy is put = (
   graph,
@@ -100,7 +100,7 @@ some_ranking graph job given alike b old new r few damped proper small heavy is 
   record {
     proper = proper;
     weights = heavy;
-    printed = put ∙ ap (λ (x : Intervals). old ++ ranking_text r x job.top) is;
+    printed = put ∙ ap (λ (x : Intervals). old ++ text_for r job x) is;
     proven = proven r job.rounds job.damping few damped graph proper small given heavy;
   },
 )

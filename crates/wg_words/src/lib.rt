@@ -62,7 +62,7 @@ mod words;
 
 pub use asked::job;
 pub use defaults::DEFAULT_DAMPING;
-pub use jobs::{Job, JobError, RankJob, VerifyJob};
+pub use jobs::{Job, JobError, Origin, RankJob, VerifyJob, WriteJob};
 pub use layout::default_layout;
 pub use name::Name;
 pub use words::Words;
