@@ -10,6 +10,7 @@ use Rattle.wg_rank.proofs.Pageranks.{gap_shrinks, high_falls, low_rises}
 use Rattle.wg_words.specs.declared.jobs.Job.TheVariants.{Rank}
 use Rattle.wg_outcomes.specs.Judged.{Judged, output_of, status_of, weights_then}
 use Rattle.wg_rank.specs.Rounds.{bounds_after}
+use Rattle.wg_words.specs.declared.jobs.RankJob.{RankJob}
 use Rattle.wg_outcomes.specs.Ranked.{bounds_for, text_for}
 use Rattle.wg_outcomes.specs.Readings.{Readings}
 use Rattle.wg_outcomes.specs.declared.status.Input.TheVariants.{Weights}
