@@ -19,11 +19,10 @@ pub(crate) fn input_name(job: &Job, input: Input) -> Option<FileName<'_>>
         Job::Arcs { base } | Job::Ascii { base } | Job::Offsets { base } => {
             record_file(base, input)
         }
-        Job::Rank(job) => {
-            record_file(&job.base, input).or(weights_file(&job.weights, input))
-        }
-        Job::Verify(job) => record_file(&job.base, input)
-            .or(weights_file(&job.weights, input).or(certificate_file(&job.certificate, input))),
+        Job::Rank(job) => { record_file(&job.base, input).or(weights_file(&job.weights, input)) }
+        Job::Verify(job) => record_file(&job.base, input).or(weights_file(&job.weights, input).or(
+            certificate_file(&job.certificate, input),
+        )),
         Job::Write(job) => origin_file(&job.origin, input),
         Job::Bulk { .. } => None,
     }
@@ -36,13 +35,17 @@ fn origin_file(origin: &Origin, input: Input) -> Option<FileName<'_>>
     match origin {
         Origin::Build { arcs, .. } => list_file(arcs, input),
         Origin::Import { text } => text_file(text, input),
-        Origin::Quotient { input: base, map, .. } => {
-            record_file(base, input).or(map_file(map, input))
-        }
+        Origin::Quotient {
+            input: base,
+            map,
+            ..
+        } => { record_file(base, input).or(map_file(map, input)) }
         Origin::Recode { input: base } | Origin::Transpose { input: base } => {
             record_file(base, input)
         }
-        Origin::Union { first, second } => archive_file(first, input).or(second_file(second, input)),
+        Origin::Union { first, second } => archive_file(first, input).or(second_file(
+            second, input,
+        )),
     }
 }
 

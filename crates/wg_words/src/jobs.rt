@@ -11,33 +11,19 @@ use wg_params::Layout;
 #[derive(Debug, Drop)]
 pub enum Job {
     /// `check BASE`: whether the files BASE`.properties`, BASE`.graph` and BASE`.offsets` are an archive.
-    Check {
-        base: Name,
-    },
+    Check { base: Name },
     /// `arcs BASE`: the arcs of the graph.
-    Arcs {
-        base: Name,
-    },
+    Arcs { base: Name },
     /// `ascii BASE`: the graph as an ASCIIGraph text.
-    Ascii {
-        base: Name,
-    },
+    Ascii { base: Name },
     /// `offsets BASE`: the places of the records.
-    Offsets {
-        base: Name,
-    },
+    Offsets { base: Name },
     /// `show BASE PAGE...`: the successors of these pages, in the order of the words. A page is any number below 2^64,
     /// also one that the archive does not have.
-    Show {
-        base: Name,
-        pages: List,
-    },
+    Show { base: Name, pages: List },
     /// `spot BASE PAGE`: the successors of this page of an archive that is not checked. The page is any number below
     /// 2^64, also one that the archive does not have.
-    Spot {
-        base: Name,
-        page: u64,
-    },
+    Spot { base: Name, page: u64 },
     /// `rank BASE`: bounds of each page's PageRank, and the order of the best pages.
     Rank(RankJob),
     /// `verify BASE FILE`: whether the certificate in FILE bounds each page's PageRank from below.
@@ -46,10 +32,7 @@ pub enum Job {
     Write(WriteJob),
     /// `bulk SEED N`: what an archive of the generated graph of so many pages comes to. The seed is any number below
     /// 2^64, the pages are at most `wg_params::MOST_GENERATED`. No file is read or written.
-    Bulk {
-        seed: u64,
-        pages: u64,
-    },
+    Bulk { seed: u64, pages: u64 },
 }
 
 /// A ranking of the pages of an archive.
@@ -93,9 +76,14 @@ pub struct WriteJob {
 pub enum Origin {
     /// `build ARCS BASE --nodes N`: the graph with so many pages whose arcs the file ARCS lists. The pages are at most
     /// `wg_params::MOST_PAGES`.
-    Build { arcs: Name, nodes: u64 },
+    Build {
+        arcs: Name,
+        nodes: u64,
+    },
     /// `import TEXT BASE`: the graph that the file TEXT holds as an ASCIIGraph text, which tells the pages.
-    Import { text: Name },
+    Import {
+        text: Name,
+    },
     /// `quotient IN MAP OUT --classes C`: the graph of C classes of the pages of the archive IN. The file MAP has a
     /// line for each page with the number of its class, and an arc leads from class to class exactly if one leads from
     /// a page of the first to a page of the second. The classes are at most `wg_params::MOST_PAGES`.
@@ -105,11 +93,18 @@ pub enum Origin {
         classes: u64,
     },
     /// `recode IN OUT`: the graph of the archive IN.
-    Recode { input: Name },
+    Recode {
+        input: Name,
+    },
     /// `union A B OUT`: the union of the graphs of the archives A and B, which may be one.
-    Union { first: Name, second: Name },
+    Union {
+        first: Name,
+        second: Name,
+    },
     /// `transpose IN OUT`: the graph of the archive IN with each arc the other way round.
-    Transpose { input: Name },
+    Transpose {
+        input: Name,
+    },
 }
 
 /// Why there is no job.
