@@ -36,8 +36,7 @@ others_stay : (name : List ℕ) (old new : Files) → StayBeside name old new �
 others_stay name old new stay q other = stay q (λ same. other Certificate (ap Some (sym same)))
 
 part_is : (text : List ℕ) (old new : Option (List ℕ)) → (new ≡ old) ⊎ HoldsLess new text → (new ≡ old) ⊎ HoldsFront new text
-part_is text old new (inl same) = inl same
-part_is text old new (inr less) = inr (less.0, less.2)
+part_is text old new h = grind arith
 
 -- the output is not the file of a certificate
 not_at_out : (s : Status) → IsStoppedAt Certificate s → s ≢ WriteFault Out

@@ -1,5 +1,5 @@
 -- How each step of `rank` leads on or ends it.
-use Rattle.std.proofs.Common.{◌≡◌, ◌∙◌, ℕ, Bool, nat_lt, List, [], ◌∷◌, ◌++◌, length, Option, Some, None, Result, Ok, Err, refl, sym, ap, subst}
+use Rattle.std.proofs.Common.{◌≡◌, ◌∙◌, ℕ, Bool, nat_lt, List, [], ◌∷◌, ◌++◌, length, Option, Some, None, Result, Ok, Err, refl, sym, ap, subst, arith}
 use Rattle.std.specs.Bool.{IsTrue}
 use Rattle.std.specs.Result.{IfErr}
 use Rattle.wg_outside.specs.Outside.{Files, Counts, Increased}
@@ -34,13 +34,10 @@ use Rattle.wg_readings.proofs.GraphJobs as graphs
 pub last_is : (graph still : Digraph) (b : Intervals) (given : Option (List ℕ)) (job : RankJob) (last : Intervals) → still ≡ graph
     → (b.weights ≡ weights_of still.nodes given → last ≡ bounds_after still given b.damping job.rounds)
     → b.weights ≡ weights_of graph.nodes given → b.damping ≡ job.damping → last ≡ bounds_for job graph given
-last_is graph still b given job last same after weighed damped =
-    subst (λ (h : Digraph). b.weights ≡ weights_of h.nodes given → last ≡ bounds_after h given b.damping job.rounds) same after weighed
-    ∙ ap (λ (d : ℕ). bounds_after graph given d job.rounds) damped
+last_is graph still b given job last same after weighed damped = grind arith
 
 weights_last : (base : List ℕ) (name : Option (List ℕ)) → name_of_input (record_files base ++ weights_file name) Weights ≡ weights_named name Weights
-weights_last base None = refl
-weights_last base (Some name) = refl
+weights_last base _ = refl
 
 -- what is left to do with the weights
 abbrev behind : RankJob → Parameters → Digraph → Option (List ℕ) → Readings → (Input → Option (List ℕ)) → Judged
