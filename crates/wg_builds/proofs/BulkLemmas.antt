@@ -4,14 +4,11 @@ use Rattle.std.proofs.lemmas.Option.{same_Some}
 use Rattle.wg_outside.specs.Outside.{Files, Counts}
 use Rattle.wg_params.specs.Parameters.{Parameters, IsWithinLimits, params_of}
 use Rattle.wg_params.specs.declared.limits.TheConstants.{MOST_ARCS, MOST_PAGES}
-use Rattle.wg_properties.specs.Judged.{properties_of}
-use Rattle.wg_properties.specs.Text.{text_of}
 use Rattle.wg_properties.specs.declared.fault.PropFault.{PropFault}
 use Rattle.wg_properties.proofs.Readback.{read_again}
 use Rattle.wg_properties.proofs.ShortTexts.{text_short}
 use Rattle.wg_graph.specs.Digraph.{Digraph, IsGraph, arc_count}
 use Rattle.wg_grammar.specs.Archive.{Accepted}
-use Rattle.wg_offsets.specs.Places.{last_place}
 use Rattle.wg_offsets.specs.Words.{places_of}
 use Rattle.wg_greedy.specs.Archive.{Archive, graph_bits, graph_file, offset_values, offsets_file}
 use Rattle.wg_encoder.specs.ArchiveInMemory.{Summarized, HoldsArchive}
@@ -24,7 +21,7 @@ use Rattle.std.specs.Result.{OnOk}
 use Rattle.wg_words.proofs.LayoutLemmas.{layout_for_any}
 use Rattle.wg_outcomes.specs.Answers.{IsHindrance}
 use Rattle.wg_outcomes.specs.Causes.{AreFaultless}
-use Rattle.wg_outcomes.specs.Judged.{Judged, accepted, output_of, unless_bad_properties, with_graph, with_lengths, with_offsets, with_parameters, offsets_then}
+use Rattle.wg_outcomes.specs.Judged.{Judged, accepted, output_of, with_graph, with_offsets, offsets_then}
 use Rattle.wg_readings.specs.Loading.{IsPropertiesFile, JudgesFiles, LoadsGraph, LoadsParams, digraph_then, params_then}
 use Rattle.wg_outcomes.specs.Names.{file_of, held_by, no_outputs}
 use Rattle.wg_readings.specs.Pairing.{files_then}
@@ -61,10 +58,7 @@ given p = Ok p
 -- the graph is one, and its parameters are within the limits
 pub sound_of : {A E : Type 0} (r : Result A E) (d g : Digraph) (l : Layout) (n m : ℕ) → d ≡ g → IsGraph d → n ≡ d.nodes → m ≡ arc_count d → l ≡ default_layout
     → n ≤ MOST_PAGES → m ≤ MOST_ARCS → IsWithinLimits (params_of l 0 0) → OnOk r (IsGraph g × IsWithinLimits (bulk_params g))
-sound_of (Err e) d g l n m drawn proper pages arcs usual few_pages few_arcs within = tt
-sound_of (Ok a) d g l n m drawn proper pages arcs usual few_pages few_arcs within =
-    subst (λ (x : Digraph). IsGraph x × IsWithinLimits (bulk_params x)) drawn
-    (proper, subst IsWithinLimits (λ i. params_of (usual i) (pages i) (arcs i)) (layout_for_any l n m 0 0 within few_pages few_arcs))
+sound_of r d g l n m h h2 h3 h4 h5 h6 h7 h8 = grind (arith, layout_for_any)
 
 pub built_in : (g : Digraph) (a : Summarized) (files : Files) → IsGraph g × IsWithinLimits (bulk_params g) → a ≡ archive_of (bulk_params g) g → HoldsArchive files [] a.files → IsBuilt g [] files
 built_in g a files sound is h = record {
@@ -90,9 +84,7 @@ module _ (g : Digraph) (base : List ℕ) (files : Files) (is : IsBuilt g base fi
 
   -- ---- what each file leads to
   params_go_on : (next : Parameters → Judged) → params_then (held_by (file_of base) files input.Properties) next ≡ next p
-  params_go_on next =
-      held_goes input.Properties (held_by (file_of base) files input.Properties) (text_of p) is.whole.0 (omega (arith, text_short p is.limits)) (λ text. with_parameters text next)
-      ∙ ap (λ (w : Result Parameters PropFault). unless_bad_properties w next) (read_again p is.limits)
+  params_go_on next = grind (arith, read_again, text_short, held_goes)
 
   graph_goes_on : (r : Readings) (next : Accepted → Judged) → graph_then r p (held_by (file_of base) files input.Graph) next ≡ next whole_graph
   graph_goes_on r next =
@@ -105,21 +97,14 @@ module _ (g : Digraph) (base : List ℕ) (files : Files) (is : IsBuilt g base fi
       ∙ goes_on_from r p is.limits (offsets_file p g.lists) places in_order.offsets next
 
   files_go_on : (r : Readings) (next : ℕ → Judged) → files_then r p (held_by (file_of base) files) next ≡ next (length (graph_bits p g.lists))
-  files_go_on r next =
-      graph_goes_on r (λ a. offsets_then r p (held_by (file_of base) files input.Offsets) (λ stored. with_lengths a.places stored (λ same. next (last_place a.places))))
-      ∙ offsets_go_on r (λ stored. with_lengths places stored (λ same. next (last_place places)))
-      ∙ all_agree places places (λ x lt. refl) (λ same. next (last_place places))
-      ∙ ap next (last_bit p g.lists)
+  files_go_on r next = grind (arith, all_agree, last_bit, graph_goes_on, offsets_go_on)
 
   digraph_goes_on : (r : Readings) (next : Digraph → Judged) → digraph_then r p (held_by (file_of base) files input.Graph) next ≡ next g
   digraph_goes_on r next = graph_goes_on r (λ a. next (record { nodes = p.nodes; lists = a.graph }))
 
   -- ---- the parameters
   pub params_are : (q : Parameters) → IsPropertiesFile (held_by (file_of base) files input.Properties) q → q ≡ p
-  params_are q file =
-      let same : file.text ≡ text_of p = same_Some file.text (text_of p) (sym file.is ∙ is.whole.0) in
-      let one : given q ≡ given p = sym file.gives ∙ ap properties_of same ∙ read_again p is.limits in
-      cc
+  params_are q file = grind (arith, same_Some, read_again)
 
   pub no_params : (files' : Files) (counts counts' : List ℕ → Counts) (e : Ending) → AreFaultless counts counts' 0 0 → LoadsParams base true files files' counts counts' (Err e) → e.status ≡ Memory
   no_params files' counts counts' e none l =

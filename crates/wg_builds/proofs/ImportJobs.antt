@@ -1,24 +1,22 @@
 -- An ASCIIGraph text that is imported, line by line: how it ends.
-use Rattle.std.proofs.Common.{◌≡◌, inl, inr, ℕ, ◌≤◌, Bool, List, length, Some, Result, Ok, Err, refl, sym, ap, subst, ◌∙◌}
+use Rattle.std.proofs.Common.{◌≡◌, ℕ, ◌≤◌, Bool, List, length, Some, Result, Ok, Err, refl, sym, subst, ◌∙◌, arith}
 use Rattle.std.specs.Bool.{IsTrue}
 use Rattle.std.specs.FinMap as map
 use Rattle.wg_outside.specs.Outside.{Files, Counts, NonDecreasing}
 use Rattle.wg_outside.specs.declared.limits.TheConstants.{MOST_BYTES}
-use Rattle.wg_outside.proofs.FilesLemmas.{none_falls-trans}
 use Rattle.wg_num.specs.Lines.{lines_of}
 use Rattle.wg_graph.specs.Digraph.{Digraph}
 use Rattle.wg_ascii.specs.Growing.{IsFirst}
 use Rattle.wg_ascii.specs.Reading.{StandsFor}
 use Rattle.wg_ascii.specs.declared.fault.AsciiError.{AsciiError}
 use Rattle.wg_ascii.specs.declared.fault.AsciiError.TheVariants as error
-use Rattle.wg_words.specs.declared.jobs.Job.TheVariants.{Import}
+use Rattle.wg_words.specs.Jobs.{writing}
+use Rattle.wg_words.specs.declared.jobs.Origin.TheVariants.{Import}
 use Rattle.wg_params.specs.declared.layout.Layout.{Layout}
-use Rattle.wg_outcomes.specs.Answers.{IsHindrance, Steps, status_in}
-use Rattle.wg_outcomes.specs.Judged.{status_of, text_then, with_text}
+use Rattle.wg_outcomes.specs.Judged.{with_text}
 use Rattle.wg_readings.specs.Loading.{IsBadText, LoadsText}
 use Rattle.wg_readings.proofs.ReadingsLemmas.{text_goes_on, text_refused}
 use Rattle.wg_readings.proofs.JobSteps.{IsRefusal, ends_at}
-use Rattle.wg_readings.proofs.UnderWay.{cause_later}
 use Rattle.wg_outcomes.specs.Names.{held_by, text_named}
 use Rattle.wg_outcomes.specs.Promised.{ArePromised}
 use Rattle.wg_outcomes.specs.declared.ending.Ending.{Ending}
@@ -34,21 +32,15 @@ use Rattle.wg_outcomes.proofs.FileLemmas.{held_goes}
 
 -- an ASCIIGraph text that was not read ends the job
 pub text_unread : (text base : List ℕ) (l : Layout) (td to : Bool) (before after : Outside) (e : Ending) → after.taken ≡ before.taken → LoadsText text td before.files after.files before.counts after.counts (Err e)
-    → Performs (Import text base l) td to before after e.status e.promised
+    → Performs (writing base l (Import text)) td to before after e.status e.promised
 text_unread text base l td to before after e silent h =
-    ends_at (Import text base l) td to before after e silent h.same h.later (λ t r. h.steps t r (λ g. builds l g)) (text_named text) Text IsBadText refl refl h.only h.causes (λ t r. refl)
-    (λ fault. subst (IsRefusal (Import text base l)) (sym fault.2) (record { own = tt; stop = tt; possible = refl }))
-    (λ t fault. subst (λ (s : Status). ArePromised (held_by (input_name (Import text base l)) before.files) s e.promised) (sym fault.2) tt)
+    ends_at (writing base l (Import text)) td to before after e silent h.same h.later (λ t r. h.steps t r (λ g. builds l g)) (text_named text) Text IsBadText refl refl h.only h.causes (λ t r. refl)
+    (λ fault. subst (IsRefusal (writing base l (Import text))) (sym fault.2) (record { own = tt; stop = tt; possible = refl }))
+    (λ t fault. subst (λ (s : Status). ArePromised (held_by (input_name (writing base l (Import text))) before.files) s e.promised) (sym fault.2) tt)
 
 -- other reads came before
 pub text_after : (name : List ℕ) (td : Bool) (f g h : Files) (a b c : List ℕ → Counts) (r : Result Digraph Ending) → g ≡ f → NonDecreasing a b → LoadsText name td g h b c r → LoadsText name td f h a c r
-text_after name td f g h a b c r same later l = record {
-  steps = λ t q. subst (λ (x : Files). Steps (text_then q (held_by (text_named name) x Text)) r) same (l.steps t q);
-  only = l.only;
-  causes = cause_later (text_named name) a b c (status_in r) later l.causes;
-  same = l.same ∙ same;
-  later = none_falls-trans a b c later l.later;
-}
+text_after name td f g h a b c r same later l = grind arith
 
 module _ (name : List ℕ) (td : Bool) (files files' : Files) (counts counts' : List ℕ → Counts) (same : files' ≡ files) (later : NonDecreasing counts counts') where
   -- ---- the text was read
@@ -63,22 +55,7 @@ module _ (name : List ℕ) (td : Bool) (files files' : Files) (counts counts' : 
 
   -- ---- memory ran out, or a line is at fault
   pub text_wants : (e : Ending) → e.status ≡ Memory → LoadsText name td files files' counts counts' (Err e)
-  text_wants e want = record {
-    steps = λ t r next. inr (subst IsHindrance (sym want) tt);
-    only = inl (inl want);
-    causes = own_caused _ _ _ _ _ _ e.status (subst IsOwn (sym want) tt);
-    same = same;
-    later = later;
-  }
+  text_wants e want = grind arith
 
   pub text_stops : (e : Ending) (x : AsciiError) → e.status ≡ status_of_text x → (IsTrue td → (file : List ℕ) × (map.get files name ≡ Some file) × (length file ≤ MOST_BYTES) × IsFirst (lines_of file) x) → LoadsText name td files files' counts counts' (Err e)
-  text_stops e error.Memory is told = text_wants e is
-  text_stops e (error.Line line kind) is told = record {
-    steps = λ t r next.
-        let h = told t in
-        inl (is ∙ sym (ap status_of (held_goes Text (map.get files name) h.0 h.1 h.2 (λ bytes. with_text r bytes next) ∙ text_refused r h.0 line kind h.3 next)));
-    only = inr (line, kind, is);
-    causes = own_caused _ _ _ _ _ _ e.status (subst IsOwn (sym is) tt);
-    same = same;
-    later = later;
-  }
+  text_stops e x h h2 = grind (arith, text_refused, IsOwn, own_caused, held_goes, text_wants)

@@ -1,6 +1,5 @@
 -- Lists of an ASCIIGraph text that are encoded as its lines come.
-use Rattle.std.proofs.Common.{◌≡◌, inl, inr, ℕ, ◌+◌, ◌<◌, ◌≤◌, List, [], ◌++◌, length, Bool, true, false, Result, Ok, refl, sym, ap, subst, ◌∙◌, arith}
-use Rattle.std.proofs.lemmas.Bool.{cases_lt}
+use Rattle.std.proofs.Common.{◌≡◌, ℕ, ◌+◌, ◌<◌, ◌≤◌, List, [], ◌++◌, length, Bool, true, false, Result, Ok, sym, ap, subst, ◌∙◌, arith}
 use Rattle.wg_num.specs.Lines.{lines_of}
 use Rattle.wg_num.proofs.Cuts.{no_lines}
 use Rattle.wg_ascii.specs.Growing.{IsUpTo}
@@ -11,21 +10,7 @@ use Rattle.wg_builds.specs.Imported.{KeepsPace}
 
 -- lines after those of the pages, if there are any
 pub blank_pace : (e : EncodedSoFar) (s t : PageLinesRead) (count : ℕ) → KeepsPace e s → (0 < count → s.nodes < s.line) → t.nodes ≡ s.nodes → t.arcs ≡ s.arcs → s.line ≤ t.line → t.line ≤ s.line + count → KeepsPace e t
-blank_pace e s t count k behind nodes arcs onward line = record {
-  nodes = k.nodes ∙ sym nodes;
-  few = omega (arith, nodes, k.few);
-  most = k.most;
-  arcs = k.arcs ∙ sym arcs;
-  room = omega (arith, arcs, k.room);
-  page = λ le. elim (cases_lt 0 count) [
-    | inl some ↦ absurd (omega (arith, nodes, behind some))
-    | inr none ↦ omega (arith, k.page (omega (arith, nodes)))
-  ];
-  over = λ lt. elim (cases_lt s.nodes s.line) [
-    | inl past ↦ omega (arith, nodes, k.over past)
-    | inr left ↦ elim (cases_lt 0 count) [ inl some ↦ absurd (omega (arith, behind some)) | inr none ↦ absurd (omega (arith, nodes)) ]
-  ];
-}
+blank_pace e s t count k behind nodes arcs onward line = grind arith
 
 -- the lines that come next are lent now
 pub lent : (all next later lists : List (List ℕ)) (text lines : List ℕ) (s : PageLinesRead) → next ≡ lines_of lines ++ later → text ≡ lines → IsUpTo all next lists s → IsUpTo all (lines_of text ++ later) lists s
@@ -34,5 +19,4 @@ lent all next later lists text lines s is same up = subst (λ (ls : List (List �
 -- nothing is lent only at the end
 pub no_later : (b : Bool) (before later : List (List ℕ)) (lines : List ℕ) → (◌≡◌ {A = Result Bool Ending} (Ok b) (Ok true) → 0 < length lines) → (◌≡◌ {A = Result Bool Ending} (Ok b) (Ok false) → before ≡ []) → before ≡ lines_of lines ++ later
     → length lines ≡ 0 → later ≡ []
-no_later true before later lines some end is none = absurd (omega (arith, some refl, none))
-no_later false before later lines some end is none = ap (λ (ls : List (List ℕ)). ls ++ later) (sym (no_lines lines none)) ∙ sym is ∙ end refl
+no_later b before later lines h h2 h3 h4 = grind (arith, no_lines)

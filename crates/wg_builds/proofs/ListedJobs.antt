@@ -1,16 +1,15 @@
 -- An arc list that is read line by line, while its lists are encoded: how it ends.
-use Rattle.std.proofs.Common.{rules, ◌≡◌, inl, inr, ℕ, ◌≤◌, Bool, List, [], ◌∷◌, ◌++◌, length, take, Some, None, Err, refl, sym, ap, subst, ◌∙◌}
+use Rattle.std.proofs.Common.{rules, ◌≡◌, ℕ, ◌≤◌, Bool, List, [], ◌∷◌, ◌++◌, length, take, Some, None, Err, refl, sym, ap, subst, ◌∙◌, arith}
 use Rattle.std.specs.Bool.{IsTrue}
 use Rattle.std.specs.FinMap as map
 use Rattle.wg_outside.specs.Outside.{Files, Counts, NonDecreasing}
-use Rattle.wg_outside.proofs.FilesLemmas.{none_falls-trans}
 use Rattle.wg_outside.specs.declared.limits.TheConstants.{MOST_BYTES}
 use Rattle.wg_num.specs.Lines.{lines_of}
 use Rattle.wg_params.specs.declared.layout.Layout.{Layout}
 use Rattle.wg_graph.specs.Digraph.{Digraph, IsGraph}
 use Rattle.wg_graph.specs.Growing.{padded}
 use Rattle.wg_graph.proofs.Arcs.{length-arcs_from}
-use Rattle.wg_arcs.specs.Growing.{IsFirst, SoFar}
+use Rattle.wg_arcs.specs.Growing.{SoFar}
 use Rattle.wg_arcs.specs.Listing.{AreListed, arcs_on}
 use Rattle.wg_arcs.specs.Growing.{ArcLinesRead}
 use Rattle.wg_arcs.specs.declared.fault.ArcsKind.{ArcsKind}
@@ -20,11 +19,11 @@ use Rattle.wg_arcs.proofs.ListedLemmas.{all_pages, count_known}
 use Rattle.wg_arcs.proofs.Order.{Arc}
 use Rattle.wg_arcs.proofs.Soundness.{all_read}
 use Rattle.wg_encoder.specs.ArchiveInMemory.{EncodedSoFar, HasEncoded}
-use Rattle.wg_words.specs.declared.jobs.Job.TheVariants.{Build}
-use Rattle.wg_outcomes.specs.Answers.{Answers, IsHindrance}
+use Rattle.wg_words.specs.Jobs.{writing}
+use Rattle.wg_words.specs.declared.jobs.Origin.TheVariants.{Build}
 use Rattle.wg_outcomes.specs.Commands.{builds}
 use Rattle.wg_outcomes.specs.JobFiles.{input_name}
-use Rattle.wg_outcomes.specs.Judged.{status_of, with_file, with_list}
+use Rattle.wg_outcomes.specs.Judged.{with_list}
 use Rattle.wg_outcomes.specs.Names.{held_by, list_named}
 use Rattle.wg_outcomes.specs.Promised.{ArePromised}
 use Rattle.wg_outcomes.specs.Performs.{Outside, Performs}
@@ -35,7 +34,6 @@ use Rattle.wg_outcomes.specs.declared.status.Status.TheVariants.{BadArcs, Done, 
 use Rattle.wg_outcomes.proofs.Statuses.{IsOwn, own_caused}
 use Rattle.wg_readings.specs.Loading.{Loads, LoadsList}
 use Rattle.wg_readings.proofs.JobSteps.{IsRefusal, ends_at}
-use Rattle.wg_readings.proofs.UnderWay.{cause_later}
 use Rattle.wg_readings.proofs.ReadingsLemmas.{list_goes_on, list_refused}
 use Rattle.wg_builds.specs.Encoded.{Encodes}
 use Rattle.wg_builds.specs.Listed.{IsFault, status_of_list}
@@ -43,9 +41,7 @@ use Rattle.wg_outcomes.proofs.FileLemmas.{held_goes}
 
 -- the lines that come next are lent now
 pub lent_now : (n m : ℕ) (all next later : List (List ℕ)) (text lent : List ℕ) (count : ℕ) (arcs : List Arc) → m ≡ n → next ≡ lines_of lent ++ later → text ≡ lent → SoFar n all next count arcs → SoFar m all (lines_of text ++ later) count arcs
-lent_now n m all next later text lent count arcs nodes lines same so =
-    subst (λ (k : ℕ). SoFar k all (lines_of text ++ later) count arcs) (sym nodes)
-    (subst (λ (ls : List (List ℕ)). SoFar n all ls count arcs) (lines ∙ ap (λ (l : List ℕ). lines_of l ++ later) (sym same)) so)
+lent_now n m all next later text lent count arcs nodes lines same so = grind arith
 
 -- no memory is left
 pub list_unheld : (name : List ℕ) (n : ℕ) (td : Bool) (f h : Files) (a c : List ℕ → Counts) → h ≡ f → NonDecreasing a c → LoadsList name n td f h a c (Err (record { status = Memory; promised = 0 }))
@@ -53,40 +49,15 @@ list_unheld name n td f h a c same later = search rules
 
 -- other reads came before
 pub list_unread_after : (name : List ℕ) (n : ℕ) (td : Bool) (f g h : Files) (a b c : List ℕ → Counts) (e : Ending) → g ≡ f → NonDecreasing a b → Loads (list_named name) ArcList td g h b c (Err e) → LoadsList name n td f h a c (Err e)
-list_unread_after name n td f g h a b c e same later l = record {
-  steps = λ t r next. subst (λ (x : Files). Answers (with_file ArcList (held_by (list_named name) x ArcList) (λ bytes. with_list r n bytes next)) e.status) same (l.steps t (λ bytes. with_list r n bytes next));
-  only = inl l.mine;
-  nodes = tt;
-  causes = cause_later (list_named name) a b c e.status later l.causes;
-  same = l.same ∙ same;
-  later = none_falls-trans a b c later l.later;
-}
+list_unread_after name n td f g h a b c e same later l = grind arith
 
 module _ (name : List ℕ) (n : ℕ) (td : Bool) (files files' : Files) (counts counts' : List ℕ → Counts) (same : files' ≡ files) (later : NonDecreasing counts counts') where
   -- ---- memory ran out, or a line is at fault
   list_wants : (e : Ending) → e.status ≡ Memory → LoadsList name n td files files' counts counts' (Err e)
-  list_wants e want = record {
-    steps = λ t r next. inr (subst IsHindrance (sym want) tt);
-    only = inl (inl want);
-    nodes = tt;
-    causes = own_caused _ _ _ _ _ _ e.status (subst IsOwn (sym want) tt);
-    same = same;
-    later = later;
-  }
+  list_wants e want = grind arith
 
   pub list_stops : (e : Ending) (x : ArcsError) → e.status ≡ status_of_list x → (IsTrue td → (file : List ℕ) × (map.get files name ≡ Some file) × (length file ≤ MOST_BYTES) × IsFault n (lines_of file) x) → LoadsList name n td files files' counts counts' (Err e)
-  list_stops e error.Memory is told = list_wants e is
-  list_stops e (error.Line line kind) is told = record {
-    steps = λ t r next.
-        let h = told t in
-        let first : IsFirst n (lines_of h.0) (error.Line line kind) = elim h.3 [ inl want ↦ absurd (cc want) | inr first ↦ first ] in
-        inl (is ∙ sym (ap status_of (held_goes ArcList (map.get files name) h.0 h.1 h.2 (λ bytes. with_list r n bytes next) ∙ list_refused r n h.0 line kind first next)));
-    only = inr (line, kind, is);
-    nodes = tt;
-    causes = own_caused _ _ _ _ _ _ e.status (subst IsOwn (sym is) tt);
-    same = same;
-    later = later;
-  }
+  list_stops e x h h2 = grind (arith, IsOwn, own_caused, list_refused, held_goes, list_wants)
 
   -- ---- the list was read, and its lists are encoded
   pub list_encoded : (s : ArcLinesRead) (done : List (List ℕ)) (list : List ℕ) → s.nodes ≡ n → AreListed done list None s
@@ -118,9 +89,9 @@ module _ (name : List ℕ) (n : ℕ) (td : Bool) (files files' : Files) (counts 
 
 -- ---- an arc list that was not read ends the job
 pub list_unread : (arcs base : List ℕ) (n : ℕ) (l : Layout) (td to : Bool) (before after : Outside) (e : Ending) → after.taken ≡ before.taken → LoadsList arcs n td before.files after.files before.counts after.counts (Err e)
-    → Performs (Build arcs base n l) td to before after e.status e.promised
+    → Performs (writing base l (Build arcs n)) td to before after e.status e.promised
 list_unread arcs base n l td to before after e silent h =
-    ends_at (Build arcs base n l) td to before after e silent h.same h.later (λ t r. h.steps t r (λ g. builds l g)) (list_named arcs) ArcList
+    ends_at (writing base l (Build arcs n)) td to before after e silent h.same h.later (λ t r. h.steps t r (λ g. builds l g)) (list_named arcs) ArcList
     (λ x. (line : ℕ) × (kind : ArcsKind) × (x.status ≡ BadArcs line kind)) refl refl h.only h.causes (λ t r. refl)
-    (λ fault. subst (IsRefusal (Build arcs base n l)) (sym fault.2) (record { own = tt; stop = tt; possible = refl }))
-    (λ t fault. subst (λ (s : Status). ArePromised (held_by (input_name (Build arcs base n l)) before.files) s e.promised) (sym fault.2) tt)
+    (λ fault. subst (IsRefusal (writing base l (Build arcs n))) (sym fault.2) (record { own = tt; stop = tt; possible = refl }))
+    (λ t fault. subst (λ (s : Status). ArePromised (held_by (input_name (writing base l (Build arcs n))) before.files) s e.promised) (sym fault.2) tt)

@@ -33,8 +33,7 @@ padded_all n lists size = sym (padded_none n lists (omega (arith, size)))
 
 comes_next : (e : EncodedSoFar) (done : List (List ℕ)) (list : List ℕ) (next : Option Arc) (s : ArcLinesRead) → HasEncoded e done → e.params.nodes ≡ s.nodes → AreListed done list next s
     → IfSome next (λ a. (e.page < a.0) × (a.0 ≤ e.params.nodes))
-comes_next e done list None s h nodes l = tt
-comes_next e done list (Some a) s h nodes l = (omega (arith, h.page, l.comes.0), omega (arith, nodes, l.comes.1))
+comes_next e done list next s h h2 h3 = grind arith
 
 -- the lists that are encoded and the next one have no more arcs than were read
 pub may_take : (e : EncodedSoFar) (done : List (List ℕ)) (list : List ℕ) (next : Option Arc) (s : ArcLinesRead) → HasEncoded e done → e.params.nodes ≡ s.nodes → e.params.arcs ≡ MOST_ARCS → AreListed done list next s → MayTake e list next
@@ -79,10 +78,7 @@ moved_on e f list list' s done next nodes most h params is encoded =
 -- ---- the last pages
 
 pub taken_whole : (n : ℕ) (e : EncodedSoFar) (done : List (List ℕ)) (list : List ℕ) → HasEncoded e done → e.page < n → take n (padded n (done ++ list ∷ [])) ≡ padded n (done ++ list ∷ [])
-taken_whole n e done list h lt =
-    let all : List (List ℕ) = done ++ list ∷ [] in
-    let size : length (padded n all) ≡ n = length-padded n all (omega (arith, h.page, length_push done list)) in
-    take_all n (padded n all) (omega (arith, size))
+taken_whole n e done list h lt = grind (arith, length_push, take_all, length-padded)
 
 pub all_taken : (n : ℕ) (e : EncodedSoFar) (done : List (List ℕ)) (list : List ℕ) → HasEncoded e done → e.page ≡ n → HasEncoded e (take n (padded n (done ++ list ∷ [])))
 all_taken n e done list h is =

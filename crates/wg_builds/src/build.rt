@@ -2,7 +2,8 @@
 ghost use Rattle.std.specs.Prelude.{◌≤◌};
 ghost use Rattle.wg_params.specs.Parameters.{IsWithinLimits, params_of};
 ghost use Rattle.wg_params.specs.declared.limits.TheConstants.{MOST_PAGES};
-ghost use Rattle.wg_words.specs.declared.jobs.Job.TheVariants.{Build};
+ghost use Rattle.wg_words.specs.Jobs.{writing};
+ghost use Rattle.wg_words.specs.declared.jobs.Origin.TheVariants.{Build};
 ghost use Rattle.wg_outcomes.specs.Performs.{DoesOrEnds};
 
 use crate::listing::encode_list;
@@ -28,7 +29,7 @@ pub fn build<D: Depot, O: Sink>(
 ) -> Result<(), Ending>
     requires nodes { nodes ≤ MOST_PAGES }
     requires layout { IsWithinLimits (params_of layout.now 0 0) }
-    ensures { DoesOrEnds ⟦<D as Depot>⟧ ⟦<O as Sink>⟧ (Build arcs.now base.now nodes layout.now)
+    ensures { DoesOrEnds ⟦<D as Depot>⟧ ⟦<O as Sink>⟧ (writing base.now layout.now (Build arcs.now nodes))
         depot.old depot.new out.old out.new result }
 {
     let (params, archive) = encode_list(alloc, nodes, layout, depot, arcs)?;

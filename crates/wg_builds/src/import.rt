@@ -1,6 +1,7 @@
 //! The command `import`: an archive from the ASCIIGraph text of a graph.
 ghost use Rattle.wg_params.specs.Parameters.{IsWithinLimits, params_of};
-ghost use Rattle.wg_words.specs.declared.jobs.Job.TheVariants.{Import};
+ghost use Rattle.wg_words.specs.Jobs.{writing};
+ghost use Rattle.wg_words.specs.declared.jobs.Origin.TheVariants.{Import};
 ghost use Rattle.wg_outcomes.specs.Performs.{DoesOrEnds};
 
 use crate::importing::encode_text;
@@ -24,7 +25,7 @@ pub fn import<D: Depot, O: Sink>(
     out: &mut O,
 ) -> Result<(), Ending>
     requires { IsWithinLimits (params_of layout.now 0 0) }
-    ensures { DoesOrEnds ⟦<D as Depot>⟧ ⟦<O as Sink>⟧ (Import text.now base.now layout.now)
+    ensures { DoesOrEnds ⟦<D as Depot>⟧ ⟦<O as Sink>⟧ (writing base.now layout.now (Import text.now))
         depot.old depot.new out.old out.new result }
 {
     let (params, archive) = encode_text(alloc, layout, depot, text)?;

@@ -2,5 +2,4 @@ pub mod KeyNames
 pub mod ProvenLemmas
 pub mod SteadyLemmas
 pub mod LineLemmas
-pub mod ArchiveJobs
 pub mod RunLemmas

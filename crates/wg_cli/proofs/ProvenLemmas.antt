@@ -26,7 +26,7 @@ pub proven_ranking : (r : Readings) (held : Input → Option (List ℕ)) (job : 
     → Done ≡ status_of (judged r (Rank job) held) → new ≡ old ++ output_of (judged r (Rank job) held)
     → PrintsProvenRanking r held job old new
 proven_ranking r held job old new few damped done put =
-    let then_ranks : Digraph → Option (List ℕ) → Judged = λ g given. ranks r job.certificate job.top (bounds_for job g given) in
+    let then_ranks : Digraph → Option (List ℕ) → Judged = λ g given. ranks r job (bounds_for job g given) in
     let last : Digraph → Judged = λ g. weights_then job.weights g.nodes (held Weights) (then_ranks g) in
     let behind = graph_behind r held last (sym done) in
     let weighed = weights_behind job.weights held behind.graph.nodes (then_ranks behind.graph) (ap status_of (sym (behind.goes_on last)) ∙ sym done) in
@@ -39,7 +39,7 @@ proven_ranking r held job old new few damped done put =
       ranked = record {
         proper = behind.proper;
         weights = weighed.proper;
-        printed = put ∙ ap (λ (j : Judged). old ++ output_of j) ends ∙ ap (λ (text : List ℕ). old ++ text) (text_ranked r job.certificate job.top (bounds_for job behind.graph weighed.given));
+        printed = put ∙ ap (λ (j : Judged). old ++ output_of j) ends ∙ ap (λ (text : List ℕ). old ++ text) (text_ranked r job (bounds_for job behind.graph weighed.given));
         proven = proven r job.rounds job.damping few damped behind.graph behind.proper behind.few_pages weighed.given weighed.proper;
       };
     }

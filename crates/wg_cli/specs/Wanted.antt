@@ -2,7 +2,7 @@
 use Rattle.std.specs.Prelude.{ℕ, Bool, true, false, Option, Some, None}
 use Rattle.wg_outside.specs.Outside.{Files}
 use Rattle.wg_words.specs.declared.jobs.Job.{Job}
-use Rattle.wg_words.specs.declared.jobs.Job.TheVariants.{Build, Import, Quotient, Recode, Union, Transpose, Bulk}
+use Rattle.wg_words.specs.declared.jobs.Job.TheVariants.{Bulk}
 use Rattle.wg_outcomes.specs.JobFiles.{input_name, writes_files}
 use Rattle.wg_outcomes.specs.Names.{held_by}
 use Rattle.wg_outcomes.specs.Promised.{ArePromised}
@@ -17,16 +17,6 @@ some_writes_files (Some job) = writes_files job
 abbrev pub calls_depot : Job → Bool
 calls_depot (Bulk seed pages) = false
 calls_depot _ = true
-
--- whether a job writes an archive, of a text or of archives
-abbrev pub writes_archive : Job → Bool
-writes_archive (Build arcs base nodes layout) = true
-writes_archive (Import text base layout) = true
-writes_archive (Quotient input map output classes layout) = true
-writes_archive (Recode input output layout) = true
-writes_archive (Union first second output layout) = true
-writes_archive (Transpose input output layout) = true
-writes_archive _ = false
 
 abbrev pub some_calls_depot : Option Job → Bool
 some_calls_depot None = false

@@ -1,9 +1,9 @@
-ghost use Rattle.std.specs.Prelude.{◌≡◌, false, IsTrue};
+ghost use Rattle.std.specs.Prelude.{◌≡◌, false};
 ghost use Rattle.wg_words.specs.Jobs.{IsWithin};
 ghost use Rattle.wg_outcomes.specs.Answers.{status_in};
 ghost use Rattle.wg_outcomes.specs.Performs.{DoesOrEnds};
 ghost use Rattle.wg_outcomes.specs.Untold.{DoesAnywhere};
-ghost use Rattle.wg_cli.specs.Wanted.{calls_depot, writes_archive};
+ghost use Rattle.wg_cli.specs.Wanted.{calls_depot};
 
 use std::alloc::Global;
 use wg_builds::build::build;
@@ -21,7 +21,7 @@ use wg_transforms::quotient::quotient;
 use wg_transforms::recode::recode;
 use wg_transforms::transpose::transpose;
 use wg_transforms::union::union;
-use wg_words::Job;
+use wg_words::{Job, Origin, WriteJob};
 
 /// Does the job by the function of its command.
 pub fn perform<D: Depot, O: Sink>(
@@ -45,53 +45,33 @@ pub fn perform<D: Depot, O: Sink>(
         Job::Spot { base, page } => spot(alloc, base, *page, depot, out),
         Job::Rank(job) => rank(alloc, job, depot, out),
         Job::Verify(job) => verify(alloc, job, depot, out),
+        Job::Write(job) => write(alloc, job, depot, out),
         Job::Bulk { seed, pages } => bulk(alloc, *seed, *pages, out),
-        _ => perform_archive_job(alloc, job, depot, out),
     }
 }
 
-// Does a job that writes an archive.
-fn perform_archive_job<D: Depot, O: Sink>(
+// Writes an archive by the function of its command.
+fn write<D: Depot, O: Sink>(
     alloc: Global,
-    job: &Job,
+    job: &WriteJob,
     depot: &mut D,
     out: &mut O,
 ) -> Result<(), Ending>
-    requires within { IsWithin job.now }
-    requires writes { IsTrue (writes_archive job.now) }
-    ensures { DoesOrEnds ⟦<D as Depot>⟧ ⟦<O as Sink>⟧ job.now depot.old depot.new out.old out.new result }
+    requires { IsWithin (Job.Write job.now) }
+    ensures { DoesOrEnds ⟦<D as Depot>⟧ ⟦<O as Sink>⟧ (Job.Write job.now) depot.old depot.new out.old out.new result }
 {
-    match job {
-        Job::Build {
-            arcs,
-            base,
-            nodes,
-            layout,
-        } => build(alloc, arcs, base, *nodes, layout, depot, out),
-        Job::Import { text, base, layout } => import(alloc, text, base, layout, depot, out),
-        Job::Quotient {
+    let output = &job.output;
+    let layout = &job.layout;
+    match &job.origin {
+        Origin::Build { arcs, nodes } => build(alloc, arcs, output, *nodes, layout, depot, out),
+        Origin::Import { text } => import(alloc, text, output, layout, depot, out),
+        Origin::Quotient {
             input,
             map,
-            output,
             classes,
-            layout,
         } => quotient(alloc, input, map, output, *classes, layout, depot, out),
-        Job::Recode {
-            input,
-            output,
-            layout,
-        } => recode(alloc, input, output, layout, depot, out),
-        Job::Union {
-            first,
-            second,
-            output,
-            layout,
-        } => union(alloc, first, second, output, layout, depot, out),
-        Job::Transpose {
-            input,
-            output,
-            layout,
-        } => transpose(alloc, input, output, layout, depot, out),
-        _ => unreachable!(),
+        Origin::Recode { input } => recode(alloc, input, output, layout, depot, out),
+        Origin::Union { first, second } => union(alloc, first, second, output, layout, depot, out),
+        Origin::Transpose { input } => transpose(alloc, input, output, layout, depot, out),
     }
 }

@@ -1,13 +1,12 @@
-ghost use Rattle.std.specs.Prelude.{◌≡◌, ◌++◌, Some};
-ghost use Rattle.wg_outside.specs.declared.suffixes.TheConstants.{PROPERTIES, GRAPH, OFFSETS};
-ghost use Rattle.wg_outcomes.specs.JobFiles.{input_name, output_name};
-ghost use Rattle.wg_outcomes.specs.Names.{archive_files, archive_named, list_named, name_of_input, record_files, second_files, text_named};
-ghost use Rattle.wg_outcomes.specs.Names.{certificate_file, certificate_outputs, certificate_to, map_file, name_of_output, weights_file};
+//! The names of a job's files, in the order in which the definitions list them.
+ghost use Rattle.std.specs.Prelude.{◌≡◌};
+ghost use Rattle.wg_outcomes.specs.JobFiles.{files_of_origin, input_name, output_name};
+ghost use Rattle.wg_outcomes.specs.Names.{archive_files, archive_named, certificate_file, certificate_outputs, list_file, map_file, name_of_input, name_of_output, record_files, second_files, text_file, weights_file};
 
 use crate::Input;
 use crate::file_name::FileName;
 use wg_outside::{GRAPH, OFFSETS, Output, PROPERTIES};
-use wg_words::{Job, Name};
+use wg_words::{Job, Name, Origin};
 
 /// The name of a job's input.
 pub(crate) fn input_name(job: &Job, input: Input) -> Option<FileName<'_>>
@@ -15,29 +14,43 @@ pub(crate) fn input_name(job: &Job, input: Input) -> Option<FileName<'_>>
 {
     match job {
         Job::Check { base } | Job::Show { base, .. } | Job::Spot { base, .. } => {
-            archive_input(base, input)
+            archive_file(base, input)
         }
-        Job::Arcs { base }
-        | Job::Ascii { base }
-        | Job::Offsets { base }
-        | Job::Recode { input: base, .. }
-        | Job::Transpose { input: base, .. } => record_input(base, input),
-        Job::Rank(job) => rank_input(&job.base, &job.weights, input),
-        Job::Verify(job) => verify_input(&job.base, &job.certificate, &job.weights, input),
-        Job::Build { arcs, .. } => list_named(arcs, input),
-        Job::Import { text, .. } => text_named(text, input),
-        Job::Quotient {
-            input: base,
-            map,
-            ..
-        } => mapped_input(base, map, input),
-        Job::Union { first, second, .. } => union_input(first, second, input),
+        Job::Arcs { base } | Job::Ascii { base } | Job::Offsets { base } => {
+            record_file(base, input)
+        }
+        Job::Rank(job) => { record_file(&job.base, input).or(weights_file(&job.weights, input)) }
+        Job::Verify(job) => record_file(&job.base, input).or(weights_file(&job.weights, input).or(
+            certificate_file(&job.certificate, input),
+        )),
+        Job::Write(job) => origin_file(&job.origin, input),
         Job::Bulk { .. } => None,
     }
 }
 
+// The name of one of the files that an archive is made of.
+fn origin_file(origin: &Origin, input: Input) -> Option<FileName<'_>>
+    ensures { result ≡ name_of_input (files_of_origin origin.now) input }
+{
+    match origin {
+        Origin::Build { arcs, .. } => list_file(arcs, input),
+        Origin::Import { text } => text_file(text, input),
+        Origin::Quotient {
+            input: base,
+            map,
+            ..
+        } => { record_file(base, input).or(map_file(map, input)) }
+        Origin::Recode { input: base } | Origin::Transpose { input: base } => {
+            record_file(base, input)
+        }
+        Origin::Union { first, second } => archive_file(first, input).or(second_file(
+            second, input,
+        )),
+    }
+}
+
 // The name of one of an archive's files.
-fn archive_input(base: &Name, input: Input) -> Option<FileName<'_>>
+fn archive_file(base: &Name, input: Input) -> Option<FileName<'_>>
     ensures { result ≡ name_of_input (archive_files base.now) input }
 {
     match input {
@@ -48,20 +61,20 @@ fn archive_input(base: &Name, input: Input) -> Option<FileName<'_>>
     }
 }
 
-// The name of one of the files of two archives.
-fn union_input<'a>(first: &'a Name, second: &'a Name, input: Input) -> Option<FileName<'a>>
-    ensures { result ≡ name_of_input (archive_files first.now ++ second_files second.now) input }
+// The name of one of the files of an archive that is read as the second.
+fn second_file(base: &Name, input: Input) -> Option<FileName<'_>>
+    ensures { result ≡ name_of_input (second_files base.now) input }
 {
     match input {
-        Input::SecondProperties => Some(FileName::with_suffix(second, PROPERTIES)),
-        Input::SecondGraph => Some(FileName::with_suffix(second, GRAPH)),
-        Input::SecondOffsets => Some(FileName::with_suffix(second, OFFSETS)),
-        _ => archive_input(first, input),
+        Input::SecondProperties => Some(FileName::with_suffix(base, PROPERTIES)),
+        Input::SecondGraph => Some(FileName::with_suffix(base, GRAPH)),
+        Input::SecondOffsets => Some(FileName::with_suffix(base, OFFSETS)),
+        _ => None,
     }
 }
 
 // The name of one of the files of an archive's records.
-fn record_input(base: &Name, input: Input) -> Option<FileName<'_>>
+fn record_file(base: &Name, input: Input) -> Option<FileName<'_>>
     ensures { result ≡ name_of_input (record_files base.now) input }
 {
     match input {
@@ -71,79 +84,36 @@ fn record_input(base: &Name, input: Input) -> Option<FileName<'_>>
     }
 }
 
-// The name of one of the files of an archive's records, or of the weights, if they are named.
-fn rank_input<'a>(base: &'a Name, weights: &'a Option<Name>, input: Input) -> Option<FileName<'a>>
-    ensures { result ≡ name_of_input (record_files base.now ++ weights_file weights.now) input }
+// The name of the weights, if they are named.
+fn weights_file(weights: &Option<Name>, input: Input) -> Option<FileName<'_>>
+    ensures { result ≡ name_of_input (weights_file weights.now) input }
 {
-    match weights {
-        Some(weights) => weighed_input(base, weights, input),
-        None => record_input(base, input),
+    match (weights, input) {
+        (Some(weights), Input::Weights) => Some(FileName::of(weights)),
+        _ => None,
     }
 }
 
-fn weighed_input<'a>(base: &'a Name, weights: &'a Name, input: Input) -> Option<FileName<'a>>
-    ensures { result ≡ name_of_input (record_files base.now ++ weights_file (Some weights.now)) input }
-{
-    match input {
-        Input::Weights => Some(FileName::of(weights)),
-        _ => record_input(base, input),
-    }
-}
-
-// The name of one of the files of an archive's records, of the weights or of the certificate.
-fn verify_input<'a>(
-    base: &'a Name,
-    certificate: &'a Name,
-    weights: &'a Option<Name>,
-    input: Input,
-) -> Option<FileName<'a>>
-    ensures { result
-        ≡ name_of_input (record_files base.now ++ weights_file weights.now ++ certificate_file certificate.now) input }
-{
-    match weights {
-        Some(weights) => weighed_claim_input(base, certificate, weights, input),
-        None => claim_input(base, certificate, input),
-    }
-}
-
-fn claim_input<'a>(base: &'a Name, certificate: &'a Name, input: Input) -> Option<FileName<'a>>
-    ensures { result ≡ name_of_input (record_files base.now ++ certificate_file certificate.now) input }
+fn certificate_file(certificate: &Name, input: Input) -> Option<FileName<'_>>
+    ensures { result ≡ name_of_input (certificate_file certificate.now) input }
 {
     match input {
         Input::Certificate => Some(FileName::of(certificate)),
-        _ => record_input(base, input),
+        _ => None,
     }
 }
 
-fn weighed_claim_input<'a>(
-    base: &'a Name,
-    certificate: &'a Name,
-    weights: &'a Name,
-    input: Input,
-) -> Option<FileName<'a>>
-    ensures { result
-        ≡ name_of_input (record_files base.now ++ weights_file (Some weights.now) ++ certificate_file certificate.now)
-        input }
-{
-    match input {
-        Input::Certificate => Some(FileName::of(certificate)),
-        _ => weighed_input(base, weights, input),
-    }
-}
-
-// The name of one of the files of an archive's records, or of a map.
-fn mapped_input<'a>(base: &'a Name, map: &'a Name, input: Input) -> Option<FileName<'a>>
-    ensures { result ≡ name_of_input (record_files base.now ++ map_file map.now) input }
+fn map_file(map: &Name, input: Input) -> Option<FileName<'_>>
+    ensures { result ≡ name_of_input (map_file map.now) input }
 {
     match input {
         Input::Map => Some(FileName::of(map)),
-        _ => record_input(base, input),
+        _ => None,
     }
 }
 
-// The name of the one input of a job that reads an arc list.
-fn list_named(arcs: &Name, input: Input) -> Option<FileName<'_>>
-    ensures { result ≡ list_named arcs.now input }
+fn list_file(arcs: &Name, input: Input) -> Option<FileName<'_>>
+    ensures { result ≡ name_of_input (list_file arcs.now) input }
 {
     match input {
         Input::ArcList => Some(FileName::of(arcs)),
@@ -151,9 +121,8 @@ fn list_named(arcs: &Name, input: Input) -> Option<FileName<'_>>
     }
 }
 
-// The name of the one input of a job that reads an ASCIIGraph text.
-fn text_named(text: &Name, input: Input) -> Option<FileName<'_>>
-    ensures { result ≡ text_named text.now input }
+fn text_file(text: &Name, input: Input) -> Option<FileName<'_>>
+    ensures { result ≡ name_of_input (text_file text.now) input }
 {
     match input {
         Input::Text => Some(FileName::of(text)),
@@ -174,17 +143,13 @@ pub(crate) fn output_name(job: &Job, output: Output) -> Option<FileName<'_>>
         | Job::Spot { .. }
         | Job::Verify(_)
         | Job::Bulk { .. } => None,
-        Job::Rank(job) => certificate_in(&job.certificate, output),
-        Job::Build { base, .. }
-        | Job::Import { base, .. }
-        | Job::Quotient { output: base, .. }
-        | Job::Recode { output: base, .. }
-        | Job::Union { output: base, .. }
-        | Job::Transpose { output: base, .. } => archive_named(base, output),
+        Job::Rank(job) => certificate_to(&job.certificate, output),
+        Job::Write(job) => archive_to(&job.output, output),
     }
 }
 
-fn archive_named(base: &Name, output: Output) -> Option<FileName<'_>>
+// The name of one of the files of an archive that is written.
+fn archive_to(base: &Name, output: Output) -> Option<FileName<'_>>
     ensures { result ≡ archive_named base.now output }
 {
     match output {
@@ -196,20 +161,11 @@ fn archive_named(base: &Name, output: Output) -> Option<FileName<'_>>
 }
 
 // The name of the certificate that is written, if one is named.
-fn certificate_in(certificate: &Option<Name>, output: Output) -> Option<FileName<'_>>
+fn certificate_to(certificate: &Option<Name>, output: Output) -> Option<FileName<'_>>
     ensures { result ≡ name_of_output (certificate_outputs certificate.now) output }
 {
-    match certificate {
-        None => None,
-        Some(name) => certificate_to(name, output),
-    }
-}
-
-fn certificate_to(name: &Name, output: Output) -> Option<FileName<'_>>
-    ensures { result ≡ certificate_to name.now output }
-{
-    match output {
-        Output::Certificate => Some(FileName::of(name)),
-        Output::Properties | Output::Graph | Output::Offsets | Output::Out => None,
+    match (certificate, output) {
+        (Some(name), Output::Certificate) => Some(FileName::of(name)),
+        _ => None,
     }
 }

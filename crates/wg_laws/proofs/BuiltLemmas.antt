@@ -28,9 +28,9 @@ use Rattle.wg_params.specs.declared.limits.TheConstants.{MOST_PAGES}
 use Rattle.wg_words.proofs.LayoutLemmas.{layout_for_any}
 use Rattle.wg_words.specs.declared.jobs.Job.TheVariants.{Check, Arcs}
 use Rattle.wg_laws.specs.Built.{holding, IsAcceptedAs, BuiltAreAccepted, BuildsAreAccepted}
-use Rattle.wg_outcomes.specs.Commands.{builds, judged, number_lines, ok_line, ranks, successors_lines}
+use Rattle.wg_outcomes.specs.Commands.{builds, judged, number_lines, ok_line, ranks, successors_lines, with_certificate}
 use Rattle.wg_outcomes.specs.Judged.{Judged, refused, accepted, built, certified, unless_bad_list, unless_bad_properties, weights_then, with_archive, with_digraph, with_file, with_graph, with_lengths, with_list, with_offsets, with_pages, with_parameters, with_places, with_records}
-use Rattle.wg_outcomes.specs.Ranked.{HoldGraph, bounds_for}
+use Rattle.wg_outcomes.specs.Ranked.{HoldGraph, bounds_for, certificate_text, text_for}
 use Rattle.wg_outcomes.specs.Readings.{Readings}
 use Rattle.wg_outcomes.specs.Written.{greedy_archive, params_for}
 use Rattle.wg_outcomes.specs.declared.status.Input.{Input}
@@ -90,9 +90,9 @@ module _ (r : Readings) (p : Parameters) (g : Digraph) (limits : IsWithinLimits 
         archive_goes_on (λ q a. with_pages q.nodes pages (λ all. accepted (successors_lines a.graph pages)))
         ∙ ap (λ (n : ℕ). with_pages n pages (λ all. accepted (successors_lines g.lists pages))) nodes;
     rank = λ job unweighed uncertified.
-        lists_go_on (λ h. weights_then job.weights h.nodes None (λ given. ranks r job.certificate job.top (bounds_for job h given)))
-        ∙ ap (λ (o : Option (List ℕ)). weights_then o g.nodes None (λ given. ranks r job.certificate job.top (bounds_for job g given))) unweighed
-        ∙ ap (λ (o : Option (List ℕ)). ranks r o job.top (bounds_for job g None)) uncertified;
+        lists_go_on (λ h. weights_then job.weights h.nodes None (λ given. ranks r job (bounds_for job h given)))
+        ∙ ap (λ (o : Option (List ℕ)). weights_then o g.nodes None (λ given. ranks r job (bounds_for job g given))) unweighed
+        ∙ ap (λ (o : Option (List ℕ)). with_certificate o (certificate_text (bounds_for job g None)) (text_for r job (bounds_for job g None))) uncertified;
   }
 
 pub built_accepted : (r : Readings) → BuiltAreAccepted r

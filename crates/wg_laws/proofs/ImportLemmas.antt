@@ -10,7 +10,9 @@ use Rattle.wg_ascii.specs.Reading.{IsDecided, StandsFor}
 use Rattle.wg_ascii.specs.Text as plain
 use Rattle.wg_ascii.specs.declared.fault.AsciiKind.{AsciiKind}
 use Rattle.wg_ascii.proofs.ReadBack as texts
-use Rattle.wg_words.specs.declared.jobs.Job.TheVariants.{Ascii, Import, Recode}
+use Rattle.wg_words.specs.Jobs.{writing}
+use Rattle.wg_words.specs.declared.jobs.Job.TheVariants.{Ascii}
+use Rattle.wg_words.specs.declared.jobs.Origin.TheVariants.{Import, Recode}
 use Rattle.wg_params.specs.declared.layout.Layout.{Layout}
 use Rattle.wg_outcomes.specs.Judged.{Judged, accepted, built, output_of, status_of, unless_bad_text, with_text}
 use Rattle.wg_greedy.specs.Archive.{Archive}
@@ -33,7 +35,7 @@ module _ (a : Archive) (out : List ℕ) where
   stood_for bytes w next h h2 = grind arith
 
 import_accepted : (r : Readings) (name base : List ℕ) (layout : Layout) (held : Input → Option (List ℕ)) (a : Archive) (out : List ℕ)
-    → IsWithinLimits (params_of layout 0 0) → judged r (Import name base layout) held ≡ built a out → IsAcceptedImport r held base a out
+    → IsWithinLimits (params_of layout 0 0) → judged r (writing base layout (Import name)) held ≡ built a out → IsAcceptedImport r held base a out
 import_accepted r name base layout held a out within is =
     let next : Digraph → Judged = builds layout in
     let file = file_behind a out Text (held Text) (λ bytes. with_text r bytes next) is in
@@ -53,7 +55,7 @@ import_accepted r name base layout held a out within is =
 
 imported_back : (r : Readings) (base output name text : List ℕ) (layout : Layout) (held after : Input → Option (List ℕ))
     → judged r (Ascii base) held ≡ accepted text → length text ≤ MOST_BYTES → after Text ≡ Some text
-    → judged r (Import name output layout) after ≡ judged r (Recode base output layout) held
+    → judged r (writing output layout (Import name)) after ≡ judged r (writing output layout (Recode base)) held
 imported_back r base output name text layout held after printed short there =
     let shown : Digraph → Judged = λ g. accepted (plain.text_of_graph g) in
     let next : Digraph → Judged = builds layout in

@@ -15,9 +15,12 @@ use Rattle.wg_order.specs.Summary.{sure_pages}
 use Rattle.wg_rank.specs.Intervals.{Intervals}
 use Rattle.wg_vectors.specs.Generated.{generated}
 use Rattle.wg_words.specs.declared.jobs.Job.{Job}
-use Rattle.wg_words.specs.declared.jobs.Job.TheVariants.{Check, Arcs, Ascii, Offsets, Show, Spot, Rank, Verify, Build, Import, Quotient, Recode, Union, Transpose, Bulk}
+use Rattle.wg_words.specs.declared.jobs.Job.TheVariants.{Check, Arcs, Ascii, Offsets, Show, Spot, Rank, Verify, Write, Bulk}
+use Rattle.wg_words.specs.declared.jobs.Origin.{Origin}
+use Rattle.wg_words.specs.declared.jobs.Origin.TheVariants.{Build, Import, Quotient, Recode, Union, Transpose}
+use Rattle.wg_words.specs.declared.jobs.RankJob.{RankJob}
 use Rattle.wg_outcomes.specs.Bulk.{bulk_bounds, bulk_params, outcome_of, outcome_text}
-use Rattle.wg_outcomes.specs.Commands.{builds, judged, ranks}
+use Rattle.wg_outcomes.specs.Commands.{builds, judged, ranks, with_origin}
 use Rattle.wg_outcomes.specs.Judged.{Judged, accepted, claim_then, map_then, offsets_then, unless_bad_list, unless_some_differ, weights_then, with_archive, with_digraph, with_file, with_graph, with_records, with_successors}
 use Rattle.wg_outcomes.specs.Ranked.{bounds_for}
 use Rattle.wg_outcomes.specs.Readings.{Readings, ReadingsAgree}
@@ -70,8 +73,8 @@ successors_same r q agree p within bytes places page next = grind arith
 abbrev positions_as : Intervals → List ℕ → Positions
 positions_as b pages = record { filled = true; low = b.low; high = b.high; pages = pages }
 
-ranks_same : (r q : Readings) → ReadingsAgree r q → (certificate : Option (List ℕ)) (top : ℕ) (b : Intervals) → ranks r certificate top b ≡ ranks q certificate top b
-ranks_same r q h certificate top b = grind arith
+ranks_same : (r q : Readings) → ReadingsAgree r q → (job : RankJob) (b : Intervals) → ranks r job b ≡ ranks q job b
+ranks_same r q h job b = grind arith
 
 abbrev outcome_as : Digraph → List ℕ → Outcome
 outcome_as g pages = record {
@@ -86,6 +89,20 @@ outcome_as g pages = record {
 bulk_same : (r q : Readings) → ReadingsAgree r q → (g : Digraph) → accepted (outcome_text (outcome_of r g)) ≡ accepted (outcome_text (outcome_of q g))
 bulk_same r q agree g =
     ap (λ pages. accepted (outcome_text (outcome_as g pages))) (agree.ranking (bulk_bounds g).low (bulk_bounds g).high)
+
+-- ---- what an archive is made of that is written
+origin_same : (r q : Readings) → ReadingsAgree r q → (origin : Origin) (held : Input → Option (List ℕ)) (next : Digraph → Judged) → with_origin r origin held next ≡ with_origin q origin held next
+origin_same r q agree (Build arcs nodes) held next =
+    file_same input.ArcList (held input.ArcList) _ _ (λ bytes.
+    ap (λ w. unless_bad_list w next) (agree.arc_list nodes bytes))
+origin_same r q agree (Import text) held next = grind arith
+origin_same r q agree (Quotient base map classes) held next =
+    done_same r q agree held (λ g. map_then g.nodes classes (held input.Map) (λ list. next (quotient_of g list classes)))
+origin_same r q agree (Recode base) held next = done_same r q agree held next
+origin_same r q agree (Union first second) held next =
+    archive_same r q agree held _ _ (λ p a.
+    ap of_second (archive_same r q agree (second_held held) _ _ (λ s b. refl)))
+origin_same r q agree (Transpose base) held next = done_same r q agree held (λ g. next (transposed g))
 
 -- ---- each job
 
@@ -103,21 +120,11 @@ outcome_same r q agree (Spot base page) held =
 outcome_same r q agree (Rank job) held =
     digraph_same r q agree held _ _ (λ g.
     given_same job.weights g.nodes (held input.Weights) _ _ (λ given.
-    ranks_same r q agree job.certificate job.top (bounds_for job g given)))
+    ranks_same r q agree job (bounds_for job g given)))
 outcome_same r q agree (Verify job) held =
     done_same r q agree held (λ g.
     weights_then job.weights g.nodes (held input.Weights) (λ given.
     claim_then g.nodes (held input.Certificate) (λ c.
     with_gap g c given (λ left. accepted (verified_line c left)))))
-outcome_same r q agree (Build arcs base nodes layout) held =
-    file_same input.ArcList (held input.ArcList) _ _ (λ bytes.
-    ap (λ w. unless_bad_list w (builds layout)) (agree.arc_list nodes bytes))
-outcome_same r q agree (Import text base layout) held = grind arith
-outcome_same r q agree (Quotient base map to classes layout) held =
-    done_same r q agree held (λ g. map_then g.nodes classes (held input.Map) (λ list. builds layout (quotient_of g list classes)))
-outcome_same r q agree (Recode base to layout) held = done_same r q agree held (builds layout)
-outcome_same r q agree (Union first second output layout) held =
-    archive_same r q agree held _ _ (λ p a.
-    ap of_second (archive_same r q agree (second_held held) _ _ (λ s b. refl)))
-outcome_same r q agree (Transpose base to layout) held = done_same r q agree held (λ g. builds layout (transposed g))
+outcome_same r q agree (Write job) held = origin_same r q agree job.origin held (λ g. builds job.layout g)
 outcome_same r q agree (Bulk seed pages) held = bulk_same r q agree (generated seed pages)

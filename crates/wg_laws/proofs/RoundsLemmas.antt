@@ -10,7 +10,8 @@ use Rattle.wg_rank.proofs.Pageranks.{gap_shrinks, high_falls, low_rises}
 use Rattle.wg_words.specs.declared.jobs.Job.TheVariants.{Rank}
 use Rattle.wg_outcomes.specs.Judged.{Judged, output_of, status_of, weights_then}
 use Rattle.wg_rank.specs.Rounds.{bounds_after}
-use Rattle.wg_outcomes.specs.Ranked.{bounds_for, ranking_text}
+use Rattle.wg_words.specs.declared.jobs.RankJob.{RankJob}
+use Rattle.wg_outcomes.specs.Ranked.{bounds_for, text_for}
 use Rattle.wg_outcomes.specs.Readings.{Readings}
 use Rattle.wg_outcomes.specs.declared.status.Input.TheVariants.{Weights}
 use Rattle.wg_outcomes.specs.declared.status.Status.TheVariants.{Done}
@@ -38,15 +39,15 @@ falls f step k (suc j) le =
     ]
 
 -- a ranking is printed, whether a certificate is written or not
-pub text_ranked : (r : Readings) (certificate : Option (List ℕ)) (top : ℕ) (b : Intervals) → output_of (ranks r certificate top b) ≡ ranking_text r b top
-text_ranked r certificate top b = grind arith
+pub text_ranked : (r : Readings) (job : RankJob) (b : Intervals) → output_of (ranks r job b) ≡ text_for r job b
+text_ranked r job b = grind arith
 
-ranking_done : (r : Readings) (certificate : Option (List ℕ)) (top : ℕ) (b : Intervals) → status_of (ranks r certificate top b) ≡ Done
-ranking_done r certificate top b = grind arith
+ranking_done : (r : Readings) (job : RankJob) (b : Intervals) → status_of (ranks r job b) ≡ Done
+ranking_done r job b = grind arith
 
 pub more_narrow : (r : Readings) → MoreRoundsNarrow r
 more_narrow r held job more le damped done =
-    let on : ℕ → Digraph → Option (List ℕ) → Judged = λ k g given. ranks r job.certificate job.top (bounds_after g given job.damping k) in
+    let on : ℕ → Digraph → Option (List ℕ) → Judged = λ k g given. ranks r job (bounds_after g given job.damping k) in
     let last : ℕ → Digraph → Judged = λ k g. weights_then job.weights g.nodes (held Weights) (on k g) in
     let behind = graph_behind r held (last job.rounds) done in
     let g : Digraph = behind.graph in
@@ -55,15 +56,15 @@ more_narrow r held job more le damped done =
     let w : ℕ → ℕ = by_page (weights_of g.nodes given) in
     let some : 0 < g.nodes → 0 < total g w = heavy.proper.some in
     let ends : (k : ℕ) → judged r (Rank (with_rounds k job)) held ≡ on k g given = λ k. behind.goes_on (last k) ∙ heavy.goes_on (on k g) in
-    let printed : (k : ℕ) → output_of (judged r (Rank (with_rounds k job)) held) ≡ ranking_text r (bounds_after g given job.damping k) job.top =
-    λ k. ap output_of (ends k) ∙ text_ranked r job.certificate job.top (bounds_after g given job.damping k) in
+    let printed : (k : ℕ) → output_of (judged r (Rank (with_rounds k job)) held) ≡ text_for r job (bounds_after g given job.damping k) =
+    λ k. ap output_of (ends k) ∙ text_ranked r job (bounds_after g given job.damping k) in
     record {
       graph = g;
       given = given;
       stored = behind.stored;
       weighed = heavy.stored;
       fewer_printed = printed job.rounds;
-      more_done = ap status_of (ends more) ∙ ranking_done r job.certificate job.top (bounds_after g given job.damping more);
+      more_done = ap status_of (ends more) ∙ ranking_done r job (bounds_after g given job.damping more);
       more_printed = printed more;
       inside = record {
         low = λ v lt.

@@ -59,8 +59,8 @@ short_text c is =
     in_all _ _ _ _ (length c.low) (three_parts (named_line (codes "damping ") c.damping) (named_line (codes "pages ") (length c.low)) (bound_lines c.low))
     (short_line (codes "damping ") c.damping (omega (arith, is.damped))) (short_line (codes "pages ") (length c.low) (omega (arith, is.few))) (lines_length c.low) is.few
 
-certified_text : (r : Readings) (certificate : Option (List ℕ)) (top : ℕ) (b : Intervals) (text out : List ℕ) → ranks r certificate top b ≡ certified text out → text ≡ certificate_text b
-certified_text r certificate top b text out h = grind arith
+certified_text : (r : Readings) (job : RankJob) (b : Intervals) (text out : List ℕ) → ranks r job b ≡ certified text out → text ≡ certificate_text b
+certified_text r job b text out h = grind arith
 
 module _ (r : Readings) (held after : Input → Option (List ℕ)) (still : AreStill held after) where
   same_records : (next : Parameters → List ℕ → Judged) → with_records after next ≡ with_records held next
@@ -70,7 +70,7 @@ module _ (r : Readings) (held after : Input → Option (List ℕ)) (still : AreS
       (is : judged r (Rank job) held ≡ certified text out) (there : after input.Certificate ≡ Some text) where
     pub written_accepted : (line : List ℕ) × (judged r (Verify next) after ≡ accepted line)
     written_accepted =
-        let then_ranks : Digraph → Option (List ℕ) → Judged = λ g given. ranks r job.certificate job.top (bounds_for job g given) in
+        let then_ranks : Digraph → Option (List ℕ) → Judged = λ g given. ranks r job (bounds_for job g given) in
         let last : Digraph → Judged = λ g. weights_then job.weights g.nodes (held input.Weights) (then_ranks g) in
         let behind = graph_behind r held last (ap status_of is) in
         let g = behind.graph in
@@ -78,7 +78,7 @@ module _ (r : Readings) (held after : Input → Option (List ℕ)) (still : AreS
         let given = heavy.given in
         let b : Intervals = bounds_for job g given in
         let claim : Claim = claim_of_bounds b in
-        let same : text ≡ certificate_text b = certified_text r job.certificate job.top b text out (sym (heavy.goes_on (then_ranks g)) ∙ sym (behind.goes_on last) ∙ is) in
+        let same : text ≡ certificate_text b = certified_text r job b text out (sym (heavy.goes_on (then_ranks g)) ∙ sym (behind.goes_on last) ∙ is) in
         let bounds : AreBounds b = are_bounds g given job.rounds job.damping few damped behind.few_pages heavy.proper in
         let holds : AreBoundsOf b g = bounds_hold g given job.rounds job.damping in
         let rises = complete b g behind.proper bounds holds in

@@ -11,11 +11,13 @@ use Rattle.wg_arcs.specs.Reading.{arcs_in}
 use Rattle.wg_arcs.specs.Text.{text_of_arcs, text_of_graph}
 use Rattle.wg_ascii.specs.Laws.{HaveSameWords}
 use Rattle.wg_ascii.specs.Text as plain
-use Rattle.wg_words.specs.declared.jobs.Job.TheVariants.{Check, Arcs, Ascii, Offsets, Show, Rank, Build, Import, Recode, Transpose}
+use Rattle.wg_words.specs.Jobs.{writing}
+use Rattle.wg_words.specs.declared.jobs.Job.TheVariants.{Check, Arcs, Ascii, Offsets, Show, Rank}
+use Rattle.wg_words.specs.declared.jobs.Origin.TheVariants.{Build, Import, Recode, Transpose}
 use Rattle.wg_words.specs.declared.jobs.RankJob.{RankJob}
 use Rattle.wg_params.specs.declared.layout.Layout.{Layout}
 use Rattle.wg_outcomes.specs.Readings.{Readings}
-use Rattle.wg_outcomes.specs.Ranked.{HoldGraph, bounds_for, ranking_text}
+use Rattle.wg_outcomes.specs.Ranked.{HoldGraph, bounds_for, text_for}
 use Rattle.wg_outcomes.specs.Written.{greedy_archive}
 use Rattle.wg_outcomes.specs.Judged.{accepted, built, with_pages}
 use Rattle.wg_outcomes.specs.Commands.{judged, number_lines, ok_line, successors_lines}
@@ -50,7 +52,7 @@ pub record IsAcceptedAs (r : Readings) (p : Parameters) (g : Digraph) (base : Li
       (λ all. accepted (successors_lines g.lists pages))
   pub rank : (job : RankJob) → job.weights ≡ None → job.certificate ≡ None
       → judged r (Rank job) (holding (greedy_archive p g)) ≡ accepted
-      (ranking_text r (bounds_for job g None) job.top)
+      (text_for r job (bounds_for job g None))
 
 abbrev pub BuiltAreAccepted : Readings → Type 0
 BuiltAreAccepted r = (p : Parameters) (g : Digraph) (base : List ℕ) → IsWithinLimits p → IsGraph g → p.nodes ≡ g.nodes
@@ -68,7 +70,7 @@ abbrev pub BuildsAreAccepted : Readings → Type 0
 BuildsAreAccepted r =
     (list_name base : List ℕ) (nodes : ℕ) (layout : Layout) (held : Input → Option (List ℕ)) (a : Archive)
     (out : List ℕ)
-    → IsWithinLimits (params_of layout nodes 0) → judged r (Build list_name base nodes layout) held ≡ built a out
+    → IsWithinLimits (params_of layout nodes 0) → judged r (writing base layout (Build list_name nodes)) held ≡ built a out
     → IsAcceptedBuild r held base a out
 
 -- What an import comes to is accepted with its line, and its ASCIIGraph text has the words of the text that was read,
@@ -84,11 +86,11 @@ pub record IsAcceptedImport (r : Readings) (held : Input → Option (List ℕ)) 
 -- may be so long, is to recode the archive.
 pub record ImportsAreAccepted (r : Readings) : Type 0 where
   pub import : (name base : List ℕ) (layout : Layout) (held : Input → Option (List ℕ)) (a : Archive) (out : List ℕ)
-      → IsWithinLimits (params_of layout 0 0) → judged r (Import name base layout) held ≡ built a out
+      → IsWithinLimits (params_of layout 0 0) → judged r (writing base layout (Import name)) held ≡ built a out
       → IsAcceptedImport r held base a out
   pub back : (base output name text : List ℕ) (layout : Layout) (held after : Input → Option (List ℕ))
       → judged r (Ascii base) held ≡ accepted text → length text ≤ MOST_BYTES → after input.Text ≡ Some text
-      → judged r (Import name output layout) after ≡ judged r (Recode base output layout) held
+      → judged r (writing output layout (Import name)) after ≡ judged r (writing output layout (Recode base)) held
 
 -- What a recoding comes to is accepted with its line, and its graph is the graph that was read; so it has the same arcs.
 pub record IsAcceptedRecoding (r : Readings) (held : Input → Option (List ℕ)) (input output : List ℕ) (a : Archive)
@@ -113,14 +115,14 @@ pub record IsAcceptedTransposing (r : Readings) (held : Input → Option (List �
   pub arcs : judged r (Arcs output) (holding a) ≡ accepted (text_of_graph turned)
   pub check : judged r (Check output) (holding a) ≡ accepted out
   pub back : (third : List ℕ) (layout : Layout)
-      → judged r (Transpose output third layout) (holding a) ≡ judged r (Recode input third layout) held
+      → judged r (writing third layout (Transpose output)) (holding a) ≡ judged r (writing third layout (Recode input)) held
 
 -- They do for each archive that is read and each layout within the limits.
 pub record ConversionsAreAccepted (r : Readings) : Type 0 where
   pub recode : (input output : List ℕ) (layout : Layout) (held : Input → Option (List ℕ)) (a : Archive) (out : List ℕ)
-      → IsWithinLimits (params_of layout 0 0) → judged r (Recode input output layout) held ≡ built a out
+      → IsWithinLimits (params_of layout 0 0) → judged r (writing output layout (Recode input)) held ≡ built a out
       → IsAcceptedRecoding r held input output a out
   pub transpose : (input output : List ℕ) (layout : Layout) (held : Input → Option (List ℕ)) (a : Archive)
       (out : List ℕ)
-      → IsWithinLimits (params_of layout 0 0) → judged r (Transpose input output layout) held ≡ built a out
+      → IsWithinLimits (params_of layout 0 0) → judged r (writing output layout (Transpose input)) held ≡ built a out
       → IsAcceptedTransposing r held input output a out

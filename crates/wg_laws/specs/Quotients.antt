@@ -7,7 +7,9 @@ use Rattle.wg_graph.specs.Digraph.{Digraph}
 use Rattle.wg_shape.specs.Quotient.{IsQuotient}
 use Rattle.wg_arcs.specs.Numbers.{numbers_of}
 use Rattle.wg_arcs.specs.Text.{text_of_graph}
-use Rattle.wg_words.specs.declared.jobs.Job.TheVariants.{Arcs, Check, Quotient}
+use Rattle.wg_words.specs.Jobs.{writing}
+use Rattle.wg_words.specs.declared.jobs.Job.TheVariants.{Arcs, Check}
+use Rattle.wg_words.specs.declared.jobs.Origin.TheVariants.{Quotient}
 use Rattle.wg_greedy.specs.Archive.{Archive}
 use Rattle.wg_outcomes.specs.Judged.{accepted, built}
 use Rattle.wg_outcomes.specs.Ranked.{HoldGraph}
@@ -39,5 +41,5 @@ QuotientsAreAccepted r =
     (input map output : List ℕ) (count : ℕ) (layout : Layout) (held : Input → Option (List ℕ)) (a : Archive)
     (out : List ℕ)
     → count ≤ MOST_PAGES → IsWithinLimits (params_of layout 0 0)
-    → judged r (Quotient input map output count layout) held ≡ built a out
+    → judged r (writing output layout (Quotient input map count)) held ≡ built a out
     → IsAcceptedQuotient r held output count a out

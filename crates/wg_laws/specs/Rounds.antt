@@ -7,7 +7,7 @@ use Rattle.wg_rank.specs.Rank.{gap}
 use Rattle.wg_words.specs.declared.jobs.Job.TheVariants.{Rank}
 use Rattle.wg_outcomes.specs.Judged.{output_of, status_of}
 use Rattle.wg_words.specs.declared.jobs.RankJob.{RankJob}
-use Rattle.wg_outcomes.specs.Ranked.{HoldGraph, HoldWeights, bounds_for, ranking_text}
+use Rattle.wg_outcomes.specs.Ranked.{HoldGraph, HoldWeights, bounds_for, text_for}
 use Rattle.wg_outcomes.specs.Readings.{Readings}
 use Rattle.wg_outcomes.specs.declared.status.Input.{Input}
 use Rattle.wg_outcomes.specs.declared.status.Status.TheVariants.{Done}
@@ -29,10 +29,10 @@ pub record ArePrintedInside (r : Readings) (held : Input → Option (List ℕ)) 
   pub given : Option (List ℕ)
   pub stored : HoldGraph r held graph
   pub weighed : HoldWeights job.weights held graph.nodes given
-  pub fewer_printed : output_of (judged r (Rank job) held) ≡ ranking_text r (bounds_for job graph given) job.top
+  pub fewer_printed : output_of (judged r (Rank job) held) ≡ text_for r job (bounds_for job graph given)
   pub more_done : status_of (judged r (Rank (with_rounds more job)) held) ≡ Done
-  pub more_printed : output_of (judged r (Rank (with_rounds more job)) held) ≡ ranking_text r
-      (bounds_for (with_rounds more job) graph given) job.top
+  pub more_printed : output_of (judged r (Rank (with_rounds more job)) held) ≡ text_for r (with_rounds more job)
+      (bounds_for (with_rounds more job) graph given)
   pub inside : AreInside graph.nodes (bounds_for (with_rounds more job) graph given) (bounds_for job graph given)
   -- a single round more shrinks the gap by the damping, but for what is rounded
   pub gap : more ≡ job.rounds + 1 → 0 < graph.nodes

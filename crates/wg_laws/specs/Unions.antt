@@ -4,7 +4,9 @@ use Rattle.wg_params.specs.Parameters.{IsWithinLimits, params_of}
 use Rattle.wg_graph.specs.Digraph.{Digraph}
 use Rattle.wg_shape.specs.Graphs.{IsUnion}
 use Rattle.wg_arcs.specs.Text.{text_of_graph}
-use Rattle.wg_words.specs.declared.jobs.Job.TheVariants.{Arcs, Check, Union}
+use Rattle.wg_words.specs.Jobs.{writing}
+use Rattle.wg_words.specs.declared.jobs.Job.TheVariants.{Arcs, Check}
+use Rattle.wg_words.specs.declared.jobs.Origin.TheVariants.{Union}
 use Rattle.wg_params.specs.declared.layout.Layout.{Layout}
 use Rattle.wg_outcomes.specs.Judged.{accepted, built}
 use Rattle.wg_greedy.specs.Archive.{Archive}
@@ -34,5 +36,5 @@ pub record IsAcceptedUnion (r : Readings) (held : Input → Option (List ℕ)) (
 abbrev pub UnionsAreAccepted : Readings → Type 0
 UnionsAreAccepted r =
     (first second output : List ℕ) (layout : Layout) (held : Input → Option (List ℕ)) (a : Archive) (out : List ℕ)
-    → IsWithinLimits (params_of layout 0 0) → judged r (Union first second output layout) held ≡ built a out
+    → IsWithinLimits (params_of layout 0 0) → judged r (writing output layout (Union first second)) held ≡ built a out
     → IsAcceptedUnion r held first second output a out

@@ -1,5 +1,5 @@
 -- What is said of a source of a file is said of the depot that is seen again behind it.
-use Rattle.std.proofs.Common.{◌≡◌, ℕ, Bool, List, Some, Result, Err, refl, sym, subst}
+use Rattle.std.proofs.Common.{◌≡◌, ℕ, Bool, List, Some, Result, Err, refl, sym, subst, arith}
 use Rattle.std.specs.Bool.{IsTrue}
 use Rattle.std.specs.FinMap as map
 use Rattle.std.specs.Result.{IfErr}
@@ -10,7 +10,6 @@ use Rattle.wg_params.specs.declared.code.Code.{Code}
 use Rattle.wg_params.specs.Parameters.{Parameters}
 use Rattle.wg_source.specs.Held.{HeldBytes, IsHeldOf}
 use Rattle.wg_source.specs.Stepping.{Steps, Moves, HasCause}
-use Rattle.wg_source.specs.StepLaws.{there_after}
 use Rattle.wg_grammar.specs.Errors.{OfFault, OfRefusal, OnFault, OnRefusal, WantsNoMemory}
 use Rattle.wg_offsets.specs.Words.{ReadsOffsets}
 use Rattle.wg_offsets.specs.Sampling.{IsSampleOf}
@@ -35,8 +34,7 @@ found_bits told f name h t o = (t, (o.file, o.is, o.held, refl))
 -- they are there after a move, too
 pub found_moved : (told : Bool) (name1 name2 : List ℕ) (f1 f2 : Files) (c1 c2 : List ℕ → Counts) (h1 h2 : HeldBytes) → name2 ≡ name1 → Moves told name1 f1 f2 c1 c2 h1 h2
     → IsTrue told → (o : IsOpenOn (map.get f1 name1) h1) → HasBitsOf told f2 name2 h2 (bits_of o.file)
-found_moved told name1 name2 f1 f2 c1 c2 h1 h2 is l t o =
-    (t, (o.file, there_after told name1 name2 f1 f2 c1 c2 h1 h2 o.file is l o.is, l.in_step t o.file o.is o.held, refl))
+found_moved told name1 name2 f1 f2 c1 c2 h1 h2 is l t o = grind arith
 
 -- the depot is seen again behind the source
 module _ {D N : Type 0} (files : D → Files) (counts : D → List ℕ → Counts) (d1 d2 d3 : D) (m n : N) (end : m ≡ n → d3 ≡ d2) (left : n ≡ m) (told : Bool) where

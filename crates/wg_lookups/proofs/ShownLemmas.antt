@@ -1,5 +1,5 @@
 -- The lines of pages with their successors, part by part.
-use Rattle.std.proofs.Common.{◌≡◌, ◌∙◌, inr, get_or, ℕ, List, [], ◌++◌, map, length, codes, decimal, Bool, Option, Some, Result, Ok, Err, OnOk, arith, refl, sym, ap, append-nil, length-append, subst}
+use Rattle.std.proofs.Common.{◌≡◌, ◌∙◌, get_or, ℕ, List, [], ◌++◌, map, codes, decimal, Bool, Option, Some, Result, Ok, Err, OnOk, arith, refl, sym, ap, append-nil, length-append, subst}
 use Rattle.wg_params.specs.Parameters.{Parameters}
 use Rattle.wg_grammar.specs.Archive.{Accepted, ReadsGraph}
 use Rattle.wg_random.specs.Checked.{CheckedRecords}
@@ -8,7 +8,6 @@ use Rattle.wg_lines.specs.Printing.{HasPrinted, HasPrintedLess, Prints}
 use Rattle.std.specs.Bool.{IsTrue}
 use Rattle.std.specs.Result.{IsErrAnd}
 use Rattle.wg_outside.proofs.PutsLemmas.{is_that_err}
-use Rattle.wg_outside.specs.declared.output.Output.TheVariants.{Out}
 use Rattle.wg_outside.specs.declared.sink.Sink as sink
 use Rattle.wg_outcomes.specs.Answers.{PrintRefusals}
 use Rattle.wg_outcomes.specs.Commands.{spaced, successors_line}
@@ -18,7 +17,7 @@ use Rattle.wg_outcomes.specs.declared.status.Input.{Input}
 use Rattle.wg_readings.specs.Loading.{IsPropertiesFile}
 use Rattle.wg_lookups.specs.Showing.{OpensChains, PrintsLine}
 use Rattle.wg_outcomes.specs.declared.ending.Ending.{Ending}
-use Rattle.wg_outcomes.specs.declared.status.Status.TheVariants.{Memory, WriteFault}
+use Rattle.wg_outcomes.specs.declared.status.Status.TheVariants.{Memory}
 
 -- a text that was left out, at an early exit
 pub prints_exit : {E : Type 0} (r : Result (Unit {0}) E) (e : E) (t a b waited waits : List ℕ) → IsErrAnd r (λ x. x ≡ e) → HasPrintedLess a b waited t → Prints t a b waited waits r
@@ -45,42 +44,29 @@ archive_reads archive records p bits a same params is read =
 pub none_of_line : (old waited : List ℕ) (page : ℕ) (list : List ℕ) → HasPrintedLess old old waited (successors_line page list)
 none_of_line old waited page list =
     let start : List ℕ = decimal page ++ joined (map spaced list) in
-    let end : List ℕ = codes "\n" in
-    let last : length end ≡ 1 = refl in
     record {
       out = [];
       left = waited ++ successors_line page list;
-      some = omega (arith, last, length-append start end, length-append waited (successors_line page list));
+      some = omega (arith, length-append start (codes "\n"), length-append waited (successors_line page list));
       taken = sym (append-nil old);
       bytes = refl;
     }
 
 -- memory ran out before anything of the line was printed
 pub line_unbegun : {S : Type 0} (s : sink.Ghosts S) (archive : CheckedRecords) (page : ℕ) (sink : S) (waited waits : List ℕ) (e : Ending) → s.later sink sink → e.status ≡ Memory → PrintsLine s archive page sink sink waited waits (Err e)
-line_unbegun s archive page sink waited waits e stays is = record {
-  prints = λ t a read. none_of_line (s.taken sink) waited page (get_or a.graph page []);
-  later = stays;
-  only = inr is;
-  failed = λ fault. absurd (let no : Memory ≡ WriteFault Out = sym is ∙ fault in cc);
-}
+line_unbegun s archive page sink waited waits e stays is = grind (arith, none_of_line)
 
 -- the line of a page was printed by its list
 pub line_by_list : {S : Type 0} (s : sink.Ghosts S) (archive : CheckedRecords) (page : ℕ) (before after : S) (waited waits list : List ℕ) (r : Result (Unit {0}) Ending)
     → ((a : Accepted) → ReadsGraph archive.params archive.bits (Ok a) → list ≡ get_or a.graph page [])
     → (IsTrue s.told → Prints (successors_line page list) (s.taken before) (s.taken after) waited waits r) → s.later before after → PrintRefusals s before after r
     → PrintsLine s archive page before after waited waits r
-line_by_list s archive page before after waited waits list r is prints later refusals = record {
-  prints = λ t a read. subst (λ (l : List ℕ). Prints (successors_line page l) (s.taken before) (s.taken after) waited waits r) (is a read) (prints t);
-  later = later;
-  only = refusals.only;
-  failed = refusals.failed;
-}
+line_by_list s archive page before after waited waits list r is prints later refusals = grind arith
 
 -- ---- the records that are opened
 
 pub if_always : {A E P : Type 0} (r : Result A E) → P → OnOk r P
-if_always (Ok x) p = p
-if_always (Err e) p = tt
+if_always r h = grind arith
 
 -- a job that has ended before it opened any
 pub none_opened : (p : Parameters) (bits : List Bool) (pages : List ℕ) (n : ℕ) (r : Result (Unit {0}) Ending) (e : Ending) → IsErrAnd r (λ x. x ≡ e) → OpensChains p bits pages n n r
@@ -88,9 +74,7 @@ none_opened p bits pages n r e is = rw (is_that_err r e is) record { each = λ w
 
 -- the records that are opened, by other names of the parameters, the bits and the pages
 pub opened_as : (p q : Parameters) (bits file : List Bool) (pages asked : List ℕ) (from to : ℕ) (r : Result (Unit {0}) Ending) → p ≡ q → bits ≡ file → pages ≡ asked → OpensChains p bits pages from to r → OpensChains q file asked from to r
-opened_as p q bits file pages asked from to r params same all h =
-    subst (λ (ps : List ℕ). OpensChains q file ps from to r) all
-    (subst (λ (b : List Bool). OpensChains q b pages from to r) same (subst (λ (x : Parameters). OpensChains x bits pages from to r) params h))
+opened_as p q bits file pages asked from to r params same all h = grind arith
 
 -- a properties file gives one set of parameters
 pub same_parameters : (held : Option (List ℕ)) (p q : Parameters) → IsPropertiesFile held p → IsPropertiesFile held q → p ≡ q
@@ -98,5 +82,4 @@ same_parameters held p q a b = let text : Some a.text ≡ Some b.text = sym a.is
 
 -- a file is the same after a step that changes none
 pub same_held : (base : List ℕ) (i : Input) (files files' : Files) (bytes file : List ℕ) → files' ≡ files → held_by (file_of base) files' i ≡ Some bytes → held_by (file_of base) files i ≡ Some file → bytes ≡ file
-same_held base i files files' bytes file same a b =
-    let one : Some bytes ≡ Some file = sym a ∙ ap (λ (f : Files). held_by (file_of base) f i) same ∙ b in cc
+same_held base i files files' bytes file same a b = grind arith

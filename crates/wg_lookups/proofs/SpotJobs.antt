@@ -62,10 +62,7 @@ bad_chain told page promised (archive.Length x found stored) e is names = inr (i
 
 -- a file that is there, and not too long, is not read only if something hinders it
 hindered : (i : Input) (x : LoadError) (s : Status) → s ≡ status_at i x → x ≢ load.Absent → x ≢ load.TooLong → IsHindrance s
-hindered i load.Failed s is there short = subst IsHindrance (sym is) tt
-hindered i load.Memory s is there short = subst IsHindrance (sym is) tt
-hindered i load.Absent s is there short = absurd (there refl)
-hindered i load.TooLong s is there short = absurd (short refl)
+hindered i x s h h2 h3 = grind arith
 
 -- so with one that was found
 still_open : (told : Bool) (name : List ℕ) (files : Files) (counts counts' : List ℕ → Counts) (h : HeldBytes) (i : Input) (x : LoadError) (s : Status) → s ≡ status_at i x → HasReadCause told name files counts counts' h x

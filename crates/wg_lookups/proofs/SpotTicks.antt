@@ -1,5 +1,5 @@
 -- The records that `spot` opens.
-use Rattle.std.proofs.Common.{◌≡◌, ◌∙◌, ◌⊎◌, inl, inr, ℕ, List, Option, Some, Result, Ok, Err, option_and_then, refl, sym, ap, subst}
+use Rattle.std.proofs.Common.{◌≡◌, inl, inr, ℕ, List, Option, Some, Result, Ok, Err, refl, arith}
 use Rattle.std.specs.FinMap as map
 use Rattle.std.specs.Result.{IsErrAnd}
 use Rattle.wg_outside.specs.Outside.{Files}
@@ -28,21 +28,13 @@ none_spotted held p bytes page n r e is = rw (is_that_err r e is) record { each 
 -- the graph file that was found is the one that the depot held from the start
 pub graph_at : (base : List ℕ) (files files1 files2 : Files) (name : List ℕ) (h : HeldBytes) → file_of base Graph ≡ Some name → files1 ≡ files → files2 ≡ files1 → IsOpenOn (map.get files1 name) h
     → (bytes : List ℕ) → held_by (file_of base) files Graph ≡ Some bytes → (map.get files2 name ≡ Some bytes) × IsHeldOf bytes h
-graph_at base files files1 files2 name h named same same2 found bytes is =
-    let by_name : (f : Files) → held_by (file_of base) f Graph ≡ map.get f name = λ f. ap (λ (o : Option (List ℕ)). option_and_then (map.get f) o) named in
-    let there : map.get files1 name ≡ Some bytes = ap (λ (f : Files). map.get f name) same ∙ sym (by_name files) ∙ is in
-    let both : Some found.file ≡ Some bytes = sym found.is ∙ there in
-    let one : found.file ≡ bytes = cc in
-    (ap (λ (f : Files). map.get f name) same2 ∙ there, subst (λ (b : List ℕ). IsHeldOf b h) one found.held)
+graph_at base files files1 files2 name h named same same2 found bytes is = grind arith
 
 module _ (base : List ℕ) (files files1 : Files) (p q : Parameters) (bytes : List ℕ) (page from to : ℕ) where
   opened : (answer : Result (List ℕ) (ReadError ArchiveFault Unread)) → files1 ≡ files → p ≡ q → (s : SampledFile) → (stored : IsSampled (file_of base) files1 p s)
       → ChainAnswers p (bits_of bytes) stored.places page from to answer
       → IsChainOpened (held_by (file_of base) files) q bytes page from to answer
-  opened answer same params s stored answers =
-      subst (λ (f : Files). IsChainOpened (held_by (file_of base) f) q bytes page from to answer) same
-      (subst (λ (x : Parameters). IsChainOpened (held_by (file_of base) files1) x bytes page from to answer) params
-      (record { places = stored.places; stored = stored.goes; answers = answers }))
+  opened answer same params s stored answers = grind arith
 
   -- its successors were not read
   pub unlisted_by : (r : Result (Unit {0}) Ending) (e : Ending) → IsErrAnd r (λ x. x ≡ e) → files1 ≡ files → p ≡ q → {s : SampledFile} → (stored : IsSampled (file_of base) files1 p s)

@@ -1,5 +1,5 @@
 -- What a job that writes an archive leaves, by the archive's own names.
-use Rattle.std.proofs.Common.{◌≡◌, ◌≢◌, ◌⊎◌, inl, inr, ℕ, Bool, true, false, if◌then◌else◌, List, refl, sym, ap, subst, ◌∙◌, Option, Some, None, is_some, Result}
+use Rattle.std.proofs.Common.{◌≡◌, ◌≢◌, ◌⊎◌, inl, inr, ℕ, Bool, true, false, if◌then◌else◌, List, refl, sym, ap, subst, ◌∙◌, Option, Some, None, is_some, Result, arith}
 use Rattle.std.specs.Bool.{IsTrue}
 use Rattle.std.specs.Result.{IfErr}
 use Rattle.std.proofs.lemmas.List.{append-nil}
@@ -26,7 +26,7 @@ use Rattle.wg_outcomes.specs.declared.ending.Ending.{Ending}
 use Rattle.wg_outcomes.specs.declared.status.Input.{Input}
 use Rattle.wg_outcomes.specs.declared.status.Status.{Status}
 use Rattle.wg_outcomes.specs.declared.status.Status.TheVariants.{Done, WriteFault}
-use Rattle.wg_outcomes.proofs.Statuses.{IsRead, by_put, by_stopped, by_written, fault_caused, rose_late}
+use Rattle.wg_outcomes.proofs.Statuses.{IsRead, by_put, by_stopped, by_written}
 use Rattle.wg_outcomes.proofs.WritingLemmas.{stopped_at}
 
 -- ---- steps of a writing
@@ -36,19 +36,10 @@ others_twice names f h k one two q other = two q other ∙ one q other
 -- ---- a writing that was stopped
 pub stopped_cause : (inputs : Input → Option (List ℕ)) (names : Output → Option (List ℕ)) → names output.Out ≡ None → (old new : List ℕ → Counts) (faults faults' : ℕ) (s : Status) → IsStopped s
     → ((o : Output) → s ≡ WriteFault o → IncreasedAt (λ c. c.write_faults) (names o) old new) → HasCause inputs names old new faults faults' s
-stopped_cause inputs names none old new faults faults' s stop rose =
-    fault_caused _ _ _ _ _ _ s (by_stopped IsRead s stop (λ o. tt) tt) (λ o other is. rose o is)
-    (λ is. absurd (subst (λ (n : Option (List ℕ)). IncreasedAt (λ c. c.write_faults) n old new) none (rose output.Out is)))
-
--- a file stopped it, and not the output
-unwritten_output : (due old : List ℕ) (o : Output) → o ≢ output.Out → HasOutput due old old (WriteFault o)
-unwritten_output due old output.Out other = absurd (other refl)
-unwritten_output due old o other = refl
+stopped_cause inputs names none old new faults faults' s stop rose = grind arith
 
 pub stopped_output : (due old : List ℕ) (s : Status) → IsStopped s → s ≢ WriteFault output.Out → HasOutput due old old s
-stopped_output due old s stop other =
-    by_stopped (λ x. x ≢ WriteFault output.Out → HasOutput due old old x) s stop
-    (λ o here. unwritten_output due old o (λ is. here (ap WriteFault is))) (λ here. (0, sym (append-nil old))) other
+stopped_output due old s stop other = grind (arith, append-nil, by_stopped)
 
 -- the files are whole before the output is asked for
 pub put_stands : (a : Archive) (old new : ArchiveFiles) (r : Result (Unit {0}) Ending) → IfErr r (λ e. IsUnput e.status) → AreWhole a new → FilesAfter a old new (status_in r)
@@ -59,20 +50,16 @@ put_stopped r only = IfErr-weaker r (λ e. IsUnput e.status) (λ e. IsStopped e.
 
 -- ---- a job whose last step writes an archive and prints its line
 rose_there : (name : Option (List ℕ)) (old new : List ℕ → Counts) → IncreasedAt (λ c. c.write_faults) name old new → IsTrue (is_some name)
-rose_there None old new rose = absurd rose
-rose_there (Some name) old new rose = refl
+rose_there name old new h = grind arith
 
 -- it has each output that was at fault
 module _ (job : Job) (inputs : Input → Option (List ℕ)) (old new : List ℕ → Counts) (faults faults' : ℕ) (s : Status) (cause : HasCause inputs (output_name job) old new faults faults' s) where
   has_each : (o : Output) → s ≡ WriteFault o → IsTrue (has_output job o)
-  has_each output.Out is = refl
-  has_each o is = rose_there (output_name job o) old new (cause.write_fault o (λ same. cc) is)
+  has_each o h = grind arith
 
 cause_since : (inputs : Input → Option (List ℕ)) (names : Output → Option (List ℕ)) (old mid new : List ℕ → Counts) (faults faults' : ℕ) (r : Result (Unit {0}) Ending) → IfErr r (λ e. IsStopped e.status)
     → NonDecreasing old mid → HasCause inputs names mid new faults faults' (status_in r) → HasCause inputs names old new faults faults' (status_in r)
-cause_since inputs names old mid new faults faults' r only later cause =
-    fault_caused _ _ _ _ _ _ (status_in r) (by_written IsRead r only tt (λ o. tt) tt)
-    (λ o other is. rose_late (λ k. k.write_faults) (names o) old mid new later.write_faults (cause.write_fault o other is)) cause.out_fault
+cause_since inputs names old mid new faults faults' r only later cause = grind arith
 
 -- all was validated, and what the job writes is written, and its text printed
 pub produced : (job : Job) (td to : Bool) (before after : Outside) (files : Files) (counts : List ℕ → Counts) (what : Written) (text : Readings → List ℕ) (r : Result (Unit {0}) Ending)

@@ -1,5 +1,5 @@
 -- How a job is shown to have been done, or to have ended.
-use Rattle.std.proofs.Common.{◌≡◌, ◌⊎◌, inl, inr, ℕ, ◌<◌, length, Bool, true, false, if◌then◌else◌, List, ◌++◌, take, refl, sym, ◌∙◌, ap, subst, Option, Some, None, Result, Ok, Err, [], arith}
+use Rattle.std.proofs.Common.{◌≡◌, ◌⊎◌, inl, inr, ℕ, Bool, true, false, if◌then◌else◌, List, refl, sym, ◌∙◌, ap, subst, Option, Some, None, Result, Err, [], arith}
 use Rattle.std.specs.Bool.{IsTrue}
 use Rattle.std.specs.Result.{IfErr}
 use Rattle.std.proofs.lemmas.List.{append-nil}
@@ -9,7 +9,7 @@ use Rattle.wg_outside.specs.Puts.{Puts}
 use Rattle.wg_outside.specs.declared.depot.Depot as depot
 use Rattle.wg_outside.specs.declared.sink.Sink as sink
 use Rattle.wg_outside.specs.declared.output.Output.{Output}
-use Rattle.wg_outside.specs.declared.output.Output.TheVariants.{Out, Certificate}
+use Rattle.wg_outside.specs.declared.output.Output.TheVariants.{Out}
 use Rattle.wg_words.specs.declared.jobs.Job.{Job}
 use Rattle.wg_words.specs.declared.jobs.Job.TheVariants.{Bulk}
 use Rattle.wg_vectors.specs.Generated.{generated}
@@ -18,15 +18,14 @@ use Rattle.wg_outcomes.specs.Reached.{Reaches}
 use Rattle.wg_outcomes.specs.Answers.{Answers, HasOutput, IsPutLast, IsUnput, status_in, IsHindrance, Steps}
 use Rattle.wg_outcomes.specs.Causes.{AreFaultless, HasCause, IncreasedAt}
 use Rattle.wg_outcomes.specs.Commands.{judged, written_by}
-use Rattle.wg_outcomes.specs.Judged.{Judged, accepted, files_of, output_of, status_of, Written, an_archive, a_certificate, refused}
-use Rattle.wg_greedy.specs.Archive.{Archive}
+use Rattle.wg_outcomes.specs.Judged.{Judged, accepted, files_of, output_of, status_of, Written, refused}
 use Rattle.wg_outcomes.specs.Promised.{ArePromised, promised_in}
 use Rattle.wg_outcomes.specs.JobFiles.{can_end, has_input, input_name, output_name, prints_in_parts, writes_files}
 use Rattle.wg_outcomes.specs.Names.{held_by, no_outputs, IsOfInput}
 use Rattle.wg_outcomes.specs.Performs.{DoesAlone, DoesOrEnds, Outside, Performs, judged_on}
 use Rattle.wg_outcomes.specs.Readings.{Readings}
 use Rattle.wg_outcomes.specs.Untold.{DoesAnywhere, GeneratesAnywhere}
-use Rattle.wg_outcomes.specs.Written.{AreAllWhole, ArchiveFiles, CertificateAfter, FilesAfter, HasFiles, archive_at, content_of}
+use Rattle.wg_outcomes.specs.Written.{AreAllWhole, HasFiles}
 use Rattle.wg_outcomes.specs.declared.ending.Ending.{Ending}
 use Rattle.wg_outcomes.specs.declared.status.Input.{Input}
 use Rattle.wg_outcomes.specs.declared.status.Status.{Status}
@@ -36,10 +35,7 @@ use Rattle.wg_outcomes.proofs.Statuses.{IsRead, IsStop, by_input, by_put, cause_
 -- ---- what is said of a job is said of an equal one
 pub performs_at : (j k : Job) (td to : Bool) (before after : Outside) (s t : Status) (a b : ℕ) → j ≡ k → s ≡ t → a ≡ b
     → Performs k td to before after t b → Performs j td to before after s a
-performs_at j k td to before after s t a b same is count h =
-    subst (λ (x : Job). Performs x td to before after s a) (sym same)
-    (subst (λ (x : Status). Performs k td to before after x a) (sym is)
-    (subst (λ (x : ℕ). Performs k td to before after t x) (sym count) h))
+performs_at j k td to before after s t a b same is count h = grind arith
 
 pub does_at : {D O : Type 0} (d : depot.Ghosts D) (o : sink.Ghosts O) (j k : Job) (before after : D) (out out' : O) (r : Result (Unit {0}) Ending) → j ≡ k → DoesOrEnds d o k before after out out' r
     → DoesOrEnds d o j before after out out' r
@@ -47,8 +43,7 @@ does_at d o j k before after out out' r same h = subst (λ (x : Job). DoesOrEnds
 
 pub anywhere_at : {D O : Type 0} (d : depot.Ghosts D) (o : sink.Ghosts O) (j k : Job) (before after : D) (out out' : O) (s t : Status) → j ≡ k → s ≡ t → DoesAnywhere d o k before after out out' t
     → DoesAnywhere d o j before after out out' s
-anywhere_at d o j k before after out out' s t same is h =
-    subst (λ (x : Job). DoesAnywhere d o x before after out out' s) (sym same) (subst (λ (x : Status). DoesAnywhere d o k before after out out' x) (sym is) h)
+anywhere_at d o j k before after out out' s t same is h = grind arith
 
 -- what is done without a depot is done beside any
 pub generates : {O : Type 0} (o : sink.Ghosts O) (seed pages : ℕ) (out out' : O) (r : Result (Unit {0}) Ending) → DoesAlone o (Bulk seed pages) out out' r → GeneratesAnywhere o seed pages out out' (status_in r)
@@ -61,38 +56,16 @@ written_none r job held none = ap (λ (b : Bool). if b then files_of (judged r j
 
 pub files_same : (job : Job) → writes_files job ≡ false → (before after : Outside) (s : Status) → after.files ≡ before.files → (r : Readings)
     → HasFiles (output_name job) (written_by r job (held_by (input_name job) before.files)) before.files after.files s
-files_same job none before after s same r =
-    subst (λ (a : Option Written). HasFiles (output_name job) a before.files after.files s) (sym (written_none r job (held_by (input_name job) before.files) none)) same
+files_same job none before after s same r = grind arith
 
 pub nothing_whole : (job : Job) → writes_files job ≡ false → (r : Readings) (held : Input → Option (List ℕ)) (files : Files) → AreAllWhole (output_name job) (written_by r job held) files
 nothing_whole job none r held files = subst (λ (a : Option Written). AreAllWhole (output_name job) a files) (sym (written_none r job held none)) tt
 
 pub stop_output : (due old new : List ℕ) (s : Status) → IsStop s → new ≡ old → HasOutput due old new s
-stop_output due old new Done stop same = absurd stop
-stop_output due old new (WriteFault o) stop same = absurd stop
-stop_output due old new Memory stop same = (0, same ∙ sym (append-nil old))
-stop_output due old new (ReadFault i) stop same = (0, same ∙ sym (append-nil old))
-stop_output due old new _ stop same = same
-
--- the files before any of them was touched
-kept_after : (a : Archive) (old new : ArchiveFiles) (s : Status) → IsStop s → new ≡ old → FilesAfter a old new s
-kept_after a old new Done stop same = absurd stop
-kept_after a old new (WriteFault o) stop same = absurd stop
-kept_after a old new Memory stop same = inl (inl same)
-kept_after a old new _ stop same = same
-
--- a certificate before it was touched
-certificate_kept : (text : List ℕ) (old new : Option (List ℕ)) (s : Status) → IsStop s → new ≡ old → CertificateAfter text old new s
-certificate_kept text old new Done stop same = absurd stop
-certificate_kept text old new (WriteFault o) stop same = absurd stop
-certificate_kept text old new Memory stop same = inl same
-certificate_kept text old new _ stop same = same
+stop_output due old new s h h2 = grind (arith, append-nil)
 
 files_kept : (names : Output → Option (List ℕ)) (a : Option Written) (old new : Files) (s : Status) → IsStop s → new ≡ old → HasFiles names a old new s
-files_kept names None old new s stop same = same
-files_kept names (Some (a_certificate text)) old new s stop same =
-    (λ name other. ap (λ (f : Files). map.get f name) same, certificate_kept text _ _ s stop (ap (λ (f : Files). content_of f (names Certificate)) same))
-files_kept names (Some (an_archive a)) old new s stop same = (λ name other. ap (λ (f : Files). map.get f name) same, kept_after a _ _ s stop (ap (archive_at names) same))
+files_kept names a old new s h h2 = grind arith
 
 -- a job that was stopped before it wrote anything
 pub stopped : (job : Job) (td to : Bool) (before after : Outside) (s : Status) (a : ℕ)
@@ -104,35 +77,17 @@ pub stopped : (job : Job) (td to : Bool) (before after : Outside) (s : Status) (
     → NonDecreasing before.counts after.counts
     → (IsTrue td → ArePromised (held_by (input_name job) before.files) s a)
     → Performs job td to before after s a
-stopped job td to before after s a stop silent same answers possible causes reached later promised = record {
-  answers = answers;
-  possible = possible;
-  causes = causes;
-  reached = reached;
-  needed = λ t r o is. absurd (subst IsStop is stop);
-  output = λ t o r. stop_output _ before.taken after.taken s stop silent;
-  silent = λ apart. inr (inr silent);
-  unprinted = λ apart want. inl silent;
-  printed_last = λ t r want. inl silent;
-  files = λ t r. files_kept (output_name job) _ before.files after.files s stop same;
-  same = λ is. same;
-  later = later;
-  promised = promised;
-}
+stopped job td to before after s a stop silent same answers possible causes reached later promised = grind (arith, IsStop, stop_output, files_kept)
 
 -- ---- a job whose last step is its output
 
 -- the output of a job whose last step puts all of what is due
 pub output_put : (due text old new : List ℕ) (r : Result (Unit {0}) Ending) → text ≡ due → Puts text old new r → IfErr r (λ e. IsUnput e.status) → HasOutput due old new (status_in r)
-output_put due text old new (Ok done) is put only = put ∙ ap (λ (l : List ℕ). old ++ l) is
-output_put due text old new (Err e) is put (inl fault) =
-    subst (λ (s : Status). HasOutput due old new s) (sym fault) (put.0, subst (λ (l : List ℕ). put.0 < length l) is put.1, put.2 ∙ ap (λ (l : List ℕ). old ++ take put.0 l) is)
-output_put due text old new (Err e) is put (inr want) = subst (λ (s : Status). HasOutput due old new s) (sym want) (put.0, put.2 ∙ ap (λ (l : List ℕ). old ++ take put.0 l) is)
+output_put due text old new r h h2 h3 = grind arith
 
 -- it is the last
 pub put_last : (r : Result (Unit {0}) Ending) (old new : List ℕ) → IfErr r (λ e. IsUnput e.status) → IsPutLast (status_in r) old new
-put_last (Ok done) old new only = inl refl
-put_last (Err e) old new only = inr (inl only)
+put_last r old new h = grind arith
 
 -- all was validated, and this text is put out
 pub printed_by : (job : Job) (td to : Bool) (before after : Outside) (text : Readings → List ℕ) (r : Result (Unit {0}) Ending) → writes_files job ≡ false
@@ -211,11 +166,7 @@ still (inl more) = omega (arith, more)
 still (inr last) = omega (arith, last)
 
 pub faultless : (old new : List ℕ → Counts) → ((n : List ℕ) → ((old n).read_faults ≡ 0) × ((new n).read_faults ≡ 0) × ((old n).write_faults ≡ 0) × ((new n).write_faults ≡ 0)) → AreFaultless old new 0 0
-faultless old new zeros = record {
-  reads = λ n more. still (subst (λ (k : ℕ). Increased k 0) (zeros n).0 (subst (λ (k : ℕ). Increased (old n).read_faults k) (zeros n).1 more));
-  writes = λ n more. still (subst (λ (k : ℕ). Increased k 0) (zeros n).2 (subst (λ (k : ℕ). Increased (old n).write_faults k) (zeros n).3 more));
-  output = still;
-}
+faultless old new zeros = grind arith
 
 -- a step that goes on, whatever comes next, is not refused
 pub hindered : {B : Type 0} (step : (B → Judged) → Judged) (b : B) (e : Ending) → ((next : B → Judged) → step next ≡ next b) → Steps {B = B} step (Err e) → IsHindrance e.status

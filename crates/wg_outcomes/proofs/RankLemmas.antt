@@ -1,15 +1,10 @@
 -- Bounds that were made are those of the validation, and so is their ranking; and what is proved of it.
-use Rattle.std.proofs.Common.{◌≡◌, ◌≤◌, ◌<◌, ℕ, List, length, take, min, true, Option, Result, Ok, Err, refl, sym, ◌∙◌, ap, subst, arith}
-use Rattle.std.specs.Result.{IfOk}
+use Rattle.std.proofs.Common.{◌≡◌, ℕ, List, length, take, min, true, refl, sym, ◌∙◌, ap}
 use Rattle.std.proofs.lemmas.List.{take_min}
 use Rattle.std.proofs.lemmas.List.Sorted.{length_permutation}
-use Rattle.std.proofs.lemmas.List.FromFn.{fill_by_all, get_or-map-range_with_len, length-map-range_with_len, length-range_with_len}
-use Rattle.wg_params.specs.declared.limits.TheConstants.{MOST_PAGES, MOST_DAMPING, MOST_ROUNDS}
-use Rattle.wg_graph.specs.Digraph.{Digraph}
+use Rattle.std.proofs.lemmas.List.FromFn.{length-range_with_len}
 use Rattle.wg_rank.specs.Rank.{low, high}
-use Rattle.wg_rank.specs.Sum.{sum_below}
-use Rattle.wg_rank.specs.Intervals.{Intervals, AreBounds, AreBoundsOf, IsTable, by_page}
-use Rattle.wg_rank.specs.Weights.{AreWeights, weights_of}
+use Rattle.wg_rank.specs.Intervals.{Intervals, AreBounds}
 use Rattle.wg_rank.proofs.Certificates.{certified}
 use Rattle.wg_order.specs.Order.{IsRanking, Positions}
 use Rattle.wg_order.proofs.Surely.{surely_from}

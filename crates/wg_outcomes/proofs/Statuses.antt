@@ -1,12 +1,14 @@
 -- What a status tells by itself, however the job has come to it.
-use Rattle.std.proofs.Common.{◌≡◌, ◌≢◌, ◌≤◌, inl, inr, ℕ, List, sym, ◌∙◌, subst, refl, ap, Option, Some, None, Result, Ok, Err, arith}
+use Rattle.std.proofs.Common.{◌≡◌, ◌≤◌, ℕ, List, sym, subst, refl, Option, Some, Result, Err, arith}
 use Rattle.std.specs.Result.{IfErr}
 use Rattle.wg_outside.specs.Outside.{Counts, Increased}
 use Rattle.wg_outside.specs.declared.output.Output.{Output}
 use Rattle.wg_outside.specs.declared.output.Output.TheVariants.{Out}
-use Rattle.wg_outside.proofs.PutsLemmas.{not_rose, rose_on}
-use Rattle.wg_grammar.specs.declared.fault.ArchiveFault.{ArchiveFault}
-use Rattle.wg_outcomes.specs.Answers.{IsHindrance, IsUnput, status_in}
+use Rattle.wg_outside.proofs.PutsLemmas.{not_rose}
+use Rattle.wg_outside.specs.Refusals.{SinkRefusals}
+use Rattle.wg_outside.specs.declared.depot.WriteError.{WriteError}
+use Rattle.wg_outside.specs.declared.sink.Sink as sink
+use Rattle.wg_outcomes.specs.Answers.{IsHindrance, IsUnput, PrintRefusals, status_in, unput}
 use Rattle.wg_outcomes.specs.Causes.{HasCause, IncreasedAt}
 use Rattle.wg_outcomes.specs.Names.{IsOfInput, no_outputs}
 use Rattle.wg_outcomes.specs.Promised.{IsStopAt, IsBadFile}
@@ -14,40 +16,28 @@ use Rattle.wg_outcomes.specs.Written.{IsStopped, IsStoppedAt}
 use Rattle.wg_outcomes.specs.declared.ending.Ending.{Ending}
 use Rattle.wg_outcomes.specs.declared.status.Input.{Input}
 use Rattle.wg_outcomes.specs.declared.status.Status.{Status}
-use Rattle.wg_outcomes.specs.declared.status.Status.TheVariants.{Done, Memory, ReadFault, WriteFault, Missing, BadArchive, OverLimit}
+use Rattle.wg_outcomes.specs.declared.status.Status.TheVariants.{Done, Memory, ReadFault, WriteFault, Missing, OverLimit}
 
 -- a count that rose later rose
 pub rose_late : (count : Counts → ℕ) (name : Option (List ℕ)) (a b c : List ℕ → Counts) → ((n : List ℕ) → count (a n) ≤ count (b n)) → IncreasedAt count name b c → IncreasedAt count name a c
-rose_late count None a b c on h = h
-rose_late count (Some n) a b c on h = rose_on _ _ _ _ (on n) h (omega arith)
+rose_late count name a b c h h2 = grind arith
 
 -- ---- what is said of each way to end is said of the status
 module _ (P : Status → Type 0) where
   pub by_stop : (o : Output) (s : Status) → IsStoppedAt o s → P (WriteFault o) → P Memory → P s
-  by_stop o s (inl fault) at_fault at_want = subst P (sym fault) at_fault
-  by_stop o s (inr want) at_fault at_want = subst P (sym want) at_want
+  by_stop o s h h2 h3 = grind arith
 
   pub by_stopped : (s : Status) → IsStopped s → ((o : Output) → P (WriteFault o)) → P Memory → P s
-  by_stopped s (inl fault) at_fault at_want = subst P (sym fault.1) (at_fault fault.0)
-  by_stopped s (inr want) at_fault at_want = subst P (sym want) at_want
+  by_stopped s h h2 h3 = grind arith
 
   pub by_input : (i : Input) (s : Status) → IsOfInput i s → P Memory → P (ReadFault i) → P (Missing i) → P (OverLimit i) → P s
-  by_input i s (inl want) at_want at_fault at_gone at_long = subst P (sym want) at_want
-  by_input i s (inr (inl fault)) at_want at_fault at_gone at_long = subst P (sym fault) at_fault
-  by_input i s (inr (inr (inl gone))) at_want at_fault at_gone at_long = subst P (sym gone) at_gone
-  by_input i s (inr (inr (inr long))) at_want at_fault at_gone at_long = subst P (sym long) at_long
-
-  pub by_bad : (i : Input) (n : ℕ) (e : Ending) → IsBadFile i n e → P Memory → ((f : ArchiveFault) → P (BadArchive f)) → P e.status
-  by_bad i n e (inl want) at_want at_fault = subst P (sym want) at_want
-  by_bad i n e (inr fault) at_want at_fault = subst P (sym fault.2) (at_fault fault.0)
+  by_input i s h h2 h3 h4 h5 = grind arith
 
   pub by_put : (r : Result (Unit {0}) Ending) → IfErr r (λ e. IsUnput e.status) → P Done → P (WriteFault Out) → P Memory → P (status_in r)
-  by_put (Ok done) only at_done at_fault at_want = at_done
-  by_put (Err e) only at_done at_fault at_want = by_stop Out e.status only at_fault at_want
+  by_put r h h2 h3 h4 = grind arith
 
   pub by_written : (r : Result (Unit {0}) Ending) → IfErr r (λ e. IsStopped e.status) → P Done → ((o : Output) → P (WriteFault o)) → P Memory → P (status_in r)
-  by_written (Ok done) only at_done at_fault at_want = at_done
-  by_written (Err e) only at_done at_fault at_want = by_stopped e.status only at_fault at_want
+  by_written r h h2 h3 h4 = grind arith
 
 -- ---- what a status tells of the outside
 
@@ -78,62 +68,34 @@ IsOnly i _ = Unit {0}
 
 module _ (names : Input → Option (List ℕ)) (outputs : Output → Option (List ℕ)) (old new : List ℕ → Counts) (f f' : ℕ) where
   pub own_caused : (s : Status) → IsOwn s → HasCause names outputs old new f f' s
-  own_caused s own = record {
-    read_fault = λ i is. absurd (subst IsOwn is own);
-    missing = λ i is. absurd (subst IsOwn is own);
-    write_fault = λ o other is. absurd (subst IsOwn is own);
-    out_fault = λ is. absurd (subst IsOwn is own);
-  }
+  own_caused s own = grind arith
 
   -- ---- an output is
-  pub fault_caused : (s : Status) → IsRead s → ((o : Output) → o ≢ Out → s ≡ WriteFault o → IncreasedAt (λ c. c.write_faults) (outputs o) old new)
-      → (s ≡ WriteFault Out → Increased f f') → HasCause names outputs old new f f' s
-  fault_caused s read files out = record {
-    read_fault = λ i is. absurd (subst IsRead is read);
-    missing = λ i is. absurd (subst IsRead is read);
-    write_fault = files;
-    out_fault = out;
-  }
 
   -- a last step that only the output can end
   pub unput_cause : (r : Result (Unit {0}) Ending) → IfErr r (λ e. IsUnput e.status) → (status_in r ≡ WriteFault Out → Increased f f') → HasCause names outputs old new f f' (status_in r)
-  unput_cause r only rose =
-      fault_caused (status_in r) (by_put IsRead r only tt tt tt)
-      (λ o other is. absurd (by_put (λ s. s ≡ WriteFault o → ⊥) r only (λ (no : Done ≡ WriteFault o). cc) (λ (same : WriteFault Out ≡ WriteFault o). other cc) (λ (no : Memory ≡ WriteFault o). cc) is)) rose
+  unput_cause r only rose = grind arith
 
   -- ---- an input is, which has this name
   module _ (i : Input) (name : List ℕ) (named : names i ≡ Some name) where
-    at_name : (count : Counts → ℕ) (j : Input) → i ≡ j → Increased (count (old name)) (count (new name)) → IncreasedAt count (names j) old new
-    at_name count j same rose = subst (λ (m : Option (List ℕ)). IncreasedAt count m old new) (sym named ∙ ap names same) rose
 
     pub failed_caused : Increased (old name).read_faults (new name).read_faults → HasCause names outputs old new f f' (ReadFault i)
-    failed_caused rose = record {
-      read_fault = λ j is. at_name (λ c. c.read_faults) j (subst (IsOnly i) is refl) rose;
-      missing = λ j is. absurd (let no : ReadFault i ≡ Missing j = is in cc);
-      write_fault = λ o other is. absurd (subst IsStop is tt);
-      out_fault = λ is. absurd (subst IsStop is tt);
-    }
+    failed_caused rose = grind arith
 
     pub absent_caused : Increased (old name).absences (new name).absences → HasCause names outputs old new f f' (Missing i)
-    absent_caused rose = record {
-      read_fault = λ j is. absurd (let no : Missing i ≡ ReadFault j = is in cc);
-      missing = λ j is. at_name (λ c. c.absences) j (subst (IsOnly i) is refl) rose;
-      write_fault = λ o other is. absurd (subst IsStop is tt);
-      out_fault = λ is. absurd (subst IsStop is tt);
-    }
+    absent_caused rose = grind arith
 
 -- ---- a file is at fault
 module _ (i : Input) (n : ℕ) (e : Ending) where
   pub bad_own : IsBadFile i n e → IsOwn e.status
-  bad_own bad = by_bad IsOwn i n e bad tt (λ f. tt)
+  bad_own bad = grind arith
 
   pub bad_unread : (j : Input) → IsBadFile i n e → e.status ≡ ReadFault j → ⊥
   bad_unread j bad is = subst IsOwn is (bad_own bad)
 
   -- a stop at a file is not the end of a job that was done
   pub never_done : IsStopAt i n e → e.status ≡ Done → ⊥
-  never_done (inl only) is = subst IsStop is (by_input IsStop i e.status only tt tt tt tt)
-  never_done (inr bad) is = subst IsStop is (by_bad IsStop i n e bad tt (λ f. tt))
+  never_done h h2 = grind arith
 
 -- ---- an input was not read
 module _ (i : Input) (s : Status) where
@@ -167,3 +129,7 @@ any_faults names outputs old new f f' s h = record { read_fault = h.read_fault; 
 -- ---- the output hinders a job
 pub unput_hinders : (s : Status) → IsUnput s → IsHindrance s
 unput_hinders s only = by_stop IsHindrance Out s only tt tt
+
+-- ---- an output took no more
+pub print_refused : {S A : Type 0} (s : sink.Ghosts S) (before after : S) (w : WriteError) → SinkRefusals {A = A} s before after (Err w) → PrintRefusals {A = A} s before after (Err (unput w))
+print_refused s before after w h = grind arith

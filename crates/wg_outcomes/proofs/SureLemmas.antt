@@ -1,6 +1,5 @@
 -- Pages to which their bounds leave one position alone.
 use Rattle.std.proofs.Common.{◌≡◌, ℕ, zero, suc, ◌+◌, ◌-◌, ◌<◌, ◌≤◌, cond, nat_lt, List, ◌++◌, None, inl, inr, refl, subst, arith}
-use Rattle.std.specs.Bool.{IsTrue}
 use Rattle.std.proofs.lemmas.Bool.{cases_lt, eqb-true}
 use Rattle.std.proofs.lemmas.Bool.Decides.{nat_tests}
 use Rattle.wg_params.specs.declared.limits.TheConstants.{MOST_GENERATED}
@@ -10,7 +9,6 @@ use Rattle.wg_vectors.proofs.Whole.{generated_is_proper}
 use Rattle.wg_rank.specs.Sum.{sum_below}
 use Rattle.wg_rank.proofs.Weighing.{ones}
 use Rattle.wg_order.specs.Order.{Positions, best, worst}
-use Rattle.wg_order.specs.Summary.{is_sure}
 use Rattle.wg_order.specs.Surely.{AreOrdered, count_greater, count_smaller}
 use Rattle.wg_words.specs.declared.defaults.TheConstants.{DEFAULT_DAMPING}
 use Rattle.wg_outcomes.specs.Bulk.{HavePositions, PrintsProvenOutcome, bulk_bounds, bulk_positions, outcome_of, outcome_text}

@@ -1,5 +1,5 @@
 -- A certificate that is verified, and what holds of one that was not refused.
-use Rattle.std.proofs.Common.{◌≡◌, ◌∙◌, ◌<◌, ◌≤◌, ◌+◌, ℕ, zero, suc, Bool, true, false, cond, List, find, Option, Some, None, Ok, inl, inr, refl, sym, ap, subst, arith}
+use Rattle.std.proofs.Common.{◌≡◌, ◌∙◌, ◌<◌, ◌≤◌, ◌+◌, ℕ, zero, suc, Bool, true, false, cond, List, find, Option, Some, None, Ok, inl, inr, refl, ap, subst, arith}
 use Rattle.std.proofs.lemmas.Bool.{cases_Bool, cases_lt, le-ltb, lt-ltb, ltb-false}
 use Rattle.std.specs.List.{range_with_len}
 use Rattle.wg_graph.specs.Digraph.{Digraph}
@@ -54,8 +54,7 @@ module _ (g : Digraph) (c : Claim) (given : Option (List ℕ)) where
   w = by_page (weights_for c given)
 
   pub none_falls : Rises g c.damping w (by_page c.low) → first_fall g c given ≡ None
-  none_falls rises =
-      none_from (falls g c w) 0 g.nodes (λ v from to. le-ltb (lower g c.damping w (by_page c.low) v) (by_page c.low v) (rises v (omega (arith, to))))
+  none_falls rises = grind (arith, le-ltb, none_from)
 
   -- it does not fall
   pub rises_all : first_fall g c given ≡ None → Rises g c.damping w (by_page c.low)
@@ -69,8 +68,7 @@ module _ (g : Digraph) (c : Claim) (given : Option (List ℕ)) where
 
   -- the validation goes on with what the bounds leave
   pub goes_on_with_gap : (left : ℕ) → Rises g c.damping w (by_page c.low) × (left ≡ gap g (by_page c.low)) → Steps {B = ℕ} (with_gap g c given) (Ok left)
-  goes_on_with_gap left h next =
-      ap (λ (o : Option ℕ). unless_falls o (gap g (by_page c.low)) next) (none_falls h.0) ∙ ap next (sym h.1)
+  goes_on_with_gap left h next = grind (arith, none_falls)
 
   -- or it is refused
   pub is_refused_at : (page : ℕ) → FallsFirst g c.damping w (by_page c.low) page → (next : ℕ → Judged) → with_gap g c given next ≡ refused (BadCertificate (Falls page))

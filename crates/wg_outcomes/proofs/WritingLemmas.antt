@@ -1,22 +1,21 @@
 -- What stands of a file after calls on it, and why they stopped.
-use Rattle.std.proofs.Common.{◌≡◌, ◌≢◌, inl, inr, ℕ, Bool, List, [], refl, sym, ap, subst, ◌∙◌, Option, Some, Result, Ok, Err}
+use Rattle.std.proofs.Common.{◌≡◌, ◌≢◌, inl, inr, ℕ, Bool, List, [], refl, sym, ap, subst, ◌∙◌, Option, Some, Result, Ok, Err, arith}
 use Rattle.std.specs.Result.{IfErr, IsErrAnd}
 use Rattle.std.specs.FinMap as map
 use Rattle.wg_outside.specs.Outside.{Files, Counts, created}
-use Rattle.wg_outside.proofs.FilesLemmas.{get-insert_same, get-insert_other, none_falls-trans}
+use Rattle.wg_outside.proofs.FilesLemmas.{get-insert_same, get-insert_other}
 use Rattle.wg_outside.proofs.PutsLemmas.{is_that_err}
 use Rattle.wg_outside.specs.declared.output.Output.{Output}
 use Rattle.wg_outcomes.specs.Causes.{IncreasedAt}
 use Rattle.wg_outcomes.specs.Written.{IsStopped, IsStoppedAt, Touches}
 use Rattle.wg_outcomes.specs.declared.ending.Ending.{Ending}
 use Rattle.wg_outcomes.specs.declared.status.Status.{Status}
-use Rattle.wg_outcomes.specs.declared.status.Status.TheVariants.{Memory, WriteFault}
-use Rattle.wg_outcomes.proofs.Statuses.{by_stop, rose_late}
+use Rattle.wg_outcomes.specs.declared.status.Status.TheVariants.{WriteFault}
+use Rattle.wg_outcomes.proofs.Statuses.{by_stop}
 
 -- ---- results
 pub if_that_err : {A E : Type 0} (P : E → Type 0) (r : Result A E) (e : E) → IsErrAnd r (λ x. x ≡ e) → P e → IfErr r P
-if_that_err P (Ok a) e is p = tt
-if_that_err P (Err x) e is p = subst P (sym is) p
+if_that_err P r e h h2 = grind arith
 
 -- ---- a file that is created
 pub created_here : (f h : Files) (m : List ℕ) → h ≡ created f m → map.get h m ≡ Some []
@@ -33,22 +32,12 @@ stopped_at o s only = by_stop IsStopped o s only (inl (o, refl)) (inr refl)
 -- a fault is that of the file that was called
 pub rose_there : (names : Output → Option (List ℕ)) (o : Output) (m : List ℕ) → names o ≡ Some m → (old new : List ℕ → Counts) (s : Status) → IsStoppedAt o s
     → (s ≡ WriteFault o → IncreasedAt (λ c. c.write_faults) (Some m) old new) → (x : Output) → s ≡ WriteFault x → IncreasedAt (λ c. c.write_faults) (names x) old new
-rose_there names o m named old new s (inl fault) rose x is =
-    let same : o ≡ x = let one : WriteFault o ≡ WriteFault x = sym fault ∙ is in cc in
-    subst (λ (y : Output). IncreasedAt (λ c. c.write_faults) (names y) old new) same
-    (subst (λ (n : Option (List ℕ)). IncreasedAt (λ c. c.write_faults) n old new) (sym named) (rose fault))
-rose_there names o m named old new s (inr want) rose x is = absurd (let no : Memory ≡ WriteFault x = sym want ∙ is in cc)
+rose_there names o m h old new s h2 h3 x h4 = grind arith
 
 -- calls on a file follow one another
 pub touches_twice : (o : Output) (m : List ℕ) (told : Bool) (f g h : Files) (a b c : List ℕ → Counts) (r : Result (Unit {0}) Ending) → Touches o m told f g a b (Ok tt) → Touches o m told g h b c r
     → Touches o m told f h a c r
-touches_twice o m told f g h a b c r one two = record {
-  others = λ t q other. two.others t q other ∙ one.others t q other;
-  only = two.only;
-  cause = λ is. rose_late (λ k. k.write_faults) (Some m) a b c one.later.write_faults (two.cause is);
-  memory = λ is. rose_late (λ k. k.wants) (Some m) a b c one.later.wants (two.memory is);
-  later = none_falls-trans a b c one.later two.later;
-}
+touches_twice o m told f g h a b c r one two = grind arith
 
 -- the exit of a `?`
 pub touches_exit : (o : Output) (m : List ℕ) (told : Bool) (f g : Files) (a b : List ℕ → Counts) (r : Result (Unit {0}) Ending) (e : Ending) → IsErrAnd r (λ x. x ≡ e) → Touches o m told f g a b (Err e)

@@ -1,6 +1,8 @@
 -- Which status a validation leads to.
 use Rattle.std.specs.Prelude.{◌≡◌, ◌⊎◌, ℕ, ◌<◌, nat_eq, if◌then◌else◌, List, ◌++◌, length, take, Option, None, Result, Ok, Err, IfErr}
 use Rattle.wg_outside.specs.Outside.{Increased}
+use Rattle.wg_outside.specs.declared.depot.WriteError.{WriteError}
+use Rattle.wg_outside.specs.declared.depot.WriteError.TheVariants as write
 use Rattle.wg_outside.specs.declared.sink.Sink as sink
 use Rattle.wg_outside.specs.declared.output.Output.TheVariants.{Out}
 use Rattle.wg_outcomes.specs.Judged.{Judged, status_of}
@@ -48,6 +50,11 @@ HasOutput due old new _ = new ≡ old
 -- how the output ends a job
 abbrev pub IsUnput : Status → Type 0
 IsUnput status = (status ≡ WriteFault Out) ⊎ (status ≡ Memory)
+
+-- the end of a job whose output took no more
+abbrev pub unput : WriteError → Ending
+unput write.Failed = record { status = WriteFault Out; promised = 0 }
+unput write.Memory = record { status = Memory; promised = 0 }
 
 -- nothing was printed, unless the job was done or ended at its output or out of memory
 abbrev pub IsPutLast : Status → List ℕ → List ℕ → Type 0

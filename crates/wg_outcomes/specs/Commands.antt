@@ -15,7 +15,10 @@ use Rattle.wg_arcs.specs.Text.{text_of_graph}
 use Rattle.wg_ascii.specs.Text as plain
 use Rattle.wg_offsets.specs.Places.{last_place}
 use Rattle.wg_words.specs.declared.jobs.Job.{Job}
-use Rattle.wg_words.specs.declared.jobs.Job.TheVariants.{Check, Arcs, Ascii, Offsets, Show, Spot, Rank, Verify, Build, Import, Quotient, Recode, Union, Transpose, Bulk}
+use Rattle.wg_words.specs.declared.jobs.Job.TheVariants.{Check, Arcs, Ascii, Offsets, Show, Spot, Rank, Verify, Write, Bulk}
+use Rattle.wg_words.specs.declared.jobs.Origin.{Origin}
+use Rattle.wg_words.specs.declared.jobs.Origin.TheVariants.{Build, Import, Quotient, Recode, Union, Transpose}
+use Rattle.wg_words.specs.declared.jobs.RankJob.{RankJob}
 use Rattle.wg_params.specs.declared.layout.Layout.{Layout}
 use Rattle.wg_vectors.specs.Generated.{generated}
 use Rattle.wg_outcomes.specs.Bulk.{outcome_of, outcome_text}
@@ -23,7 +26,7 @@ use Rattle.wg_outcomes.specs.JobFiles.{writes_files}
 use Rattle.wg_outcomes.specs.Readings.{Readings}
 use Rattle.wg_outcomes.specs.Second.{of_second, second_held}
 use Rattle.wg_outcomes.specs.declared.status.Status.TheVariants.{TooManyArcs}
-use Rattle.wg_outcomes.specs.Ranked.{bounds_for, certificate_text, ranking_text}
+use Rattle.wg_outcomes.specs.Ranked.{bounds_for, certificate_text, text_for}
 use Rattle.wg_outcomes.specs.Verified.{verified_line, with_gap}
 use Rattle.wg_outcomes.specs.Written.{greedy_archive, params_for}
 use Rattle.wg_outcomes.specs.declared.status.Input.{Input}
@@ -67,11 +70,29 @@ abbrev pub with_union : Digraph → Digraph → (Digraph → Judged) → Judged
 with_union g h next = if nat_lt MOST_ARCS (arc_count (union_graph g h)) then refused TooManyArcs
     else next (union_graph g h)
 
--- the first lines of the ranking by these bounds are printed; before it, if a certificate is named, their lower half is
--- written
-abbrev pub ranks : Readings → Option (List ℕ) → ℕ → Intervals → Judged
-ranks r None top b = accepted (ranking_text r b top)
-ranks r (Some name) top b = certified (certificate_text b) (ranking_text r b top)
+-- the text is printed; before it, if a certificate is named, the certificate is written
+abbrev pub with_certificate : Option (List ℕ) → List ℕ → List ℕ → Judged
+with_certificate None certificate text = accepted text
+with_certificate (Some name) certificate text = certified certificate text
+
+-- the ranking by these bounds
+abbrev pub ranks : Readings → RankJob → Intervals → Judged
+ranks r job b = with_certificate job.certificate (certificate_text b) (text_for r job b)
+
+-- goes on with the graph of an archive that is written
+abbrev pub with_origin : Readings → Origin → (Input → Option (List ℕ)) → (Digraph → Judged) → Judged
+with_origin r (Build arcs nodes) held next = with_arcs r nodes held next
+with_origin r (Import text) held next = text_then r (held input.Text) next
+with_origin r (Quotient base map classes) held next =
+    with_records held (λ p bytes. with_digraph r p bytes (λ g.
+    map_then g.nodes classes (held input.Map) (λ list. next (quotient_of g list classes))))
+with_origin r (Recode base) held next = with_records held (λ p bytes. with_digraph r p bytes next)
+with_origin r (Union first second) held next =
+    with_archive r held (λ p a.
+    of_second (with_archive r (second_held held) (λ q b.
+    with_union (accepted_graph p a) (accepted_graph q b) next)))
+with_origin r (Transpose base) held next =
+    with_records held (λ p bytes. with_digraph r p bytes (λ g. next (transposed g)))
 
 -- Each command: its inputs in their order, and its output.
 abbrev pub judged : Readings → Job → (Input → Option (List ℕ)) → Judged
@@ -91,27 +112,13 @@ judged r (Spot base page) held =
 judged r (Rank job) held =
     with_records held (λ p bytes. with_digraph r p bytes (λ g.
     weights_then job.weights g.nodes (held input.Weights) (λ given.
-    ranks r job.certificate job.top (bounds_for job g given))))
+    ranks r job (bounds_for job g given))))
 judged r (Verify job) held =
     with_records held (λ p bytes. with_digraph r p bytes (λ g.
     weights_then job.weights g.nodes (held input.Weights) (λ given.
     claim_then g.nodes (held input.Certificate) (λ c.
     with_gap g c given (λ left. accepted (verified_line c left))))))
-judged r (Build arcs base nodes layout) held =
-    with_arcs r nodes held (λ g. builds layout g)
-judged r (Import text base layout) held =
-    text_then r (held input.Text) (λ g. builds layout g)
-judged r (Quotient base map to classes layout) held =
-    with_records held (λ p bytes. with_digraph r p bytes (λ g.
-    map_then g.nodes classes (held input.Map) (λ list. builds layout (quotient_of g list classes))))
-judged r (Recode base to layout) held =
-    with_records held (λ p bytes. with_digraph r p bytes (λ g. builds layout g))
-judged r (Union first second output layout) held =
-    with_archive r held (λ p a.
-    of_second (with_archive r (second_held held) (λ q b.
-    with_union (accepted_graph p a) (accepted_graph q b) (λ g. builds layout g))))
-judged r (Transpose base to layout) held =
-    with_records held (λ p bytes. with_digraph r p bytes (λ g. builds layout (transposed g)))
+judged r (Write job) held = with_origin r job.origin held (λ g. builds job.layout g)
 judged r (Bulk seed pages) held =
     accepted (outcome_text (outcome_of r (generated seed pages)))
 

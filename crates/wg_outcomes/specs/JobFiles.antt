@@ -6,13 +6,24 @@ use Rattle.wg_outside.specs.declared.output.Output.{Output}
 use Rattle.wg_outside.specs.declared.output.Output.TheVariants as output
 use Rattle.wg_graph.specs.Numbers.{is_in}
 use Rattle.wg_words.specs.declared.jobs.Job.{Job}
-use Rattle.wg_words.specs.declared.jobs.Job.TheVariants.{Check, Arcs, Ascii, Offsets, Show, Spot, Rank, Verify, Build, Import, Quotient, Recode, Union, Transpose, Bulk}
+use Rattle.wg_words.specs.declared.jobs.Job.TheVariants.{Check, Arcs, Ascii, Offsets, Show, Spot, Rank, Verify, Write, Bulk}
+use Rattle.wg_words.specs.declared.jobs.Origin.{Origin}
+use Rattle.wg_words.specs.declared.jobs.Origin.TheVariants.{Build, Import, Quotient, Recode, Union, Transpose}
 use Rattle.wg_outcomes.specs.declared.status.Input.{Input}
 use Rattle.wg_outcomes.specs.declared.status.Input.TheVariants as input
 use Rattle.wg_outcomes.specs.declared.status.Status.{Status}
 use Rattle.wg_outcomes.specs.declared.status.Status.TheVariants.{Done, Usage, Memory, ReadFault, WriteFault, Missing, BadArcs, BadProperties, BadArchive, BadSecond, TooManyArcs, NoPage, OverLimit, BadWeights, BadText, BadMap, BadCertificate}
 use Rattle.wg_outcomes.specs.declared.status.SecondFault.TheVariants as second
 use Rattle.wg_outcomes.specs.Second.{second_input}
+
+-- what an archive is made of that is written
+abbrev pub files_of_origin : Origin → List (Input × List ℕ)
+files_of_origin (Build arcs nodes) = list_file arcs
+files_of_origin (Import text) = text_file text
+files_of_origin (Quotient base map classes) = record_files base ++ map_file map
+files_of_origin (Recode base) = record_files base
+files_of_origin (Union first second) = archive_files first ++ second_files second
+files_of_origin (Transpose base) = record_files base
 
 -- what each job reads, in its order, and what it writes
 abbrev pub inputs_of : Job → List (Input × List ℕ)
@@ -25,21 +36,11 @@ inputs_of (Spot base page) = archive_files base
 inputs_of (Rank job) = record_files job.base ++ weights_file job.weights
 inputs_of (Verify job) =
     record_files job.base ++ weights_file job.weights ++ certificate_file job.certificate
-inputs_of (Build arcs base nodes layout) = list_file arcs
-inputs_of (Import text base layout) = text_file text
-inputs_of (Quotient base map to classes layout) = record_files base ++ map_file map
-inputs_of (Recode base to layout) = record_files base
-inputs_of (Union first second output layout) = archive_files first ++ second_files second
-inputs_of (Transpose base to layout) = record_files base
+inputs_of (Write job) = files_of_origin job.origin
 inputs_of (Bulk seed pages) = []
 
 abbrev pub outputs_of : Job → List (Output × List ℕ)
-outputs_of (Build arcs base nodes layout) = archive_outputs base
-outputs_of (Import text base layout) = archive_outputs base
-outputs_of (Quotient from map base classes layout) = archive_outputs base
-outputs_of (Recode from base layout) = archive_outputs base
-outputs_of (Union first second output layout) = archive_outputs output
-outputs_of (Transpose from base layout) = archive_outputs base
+outputs_of (Write job) = archive_outputs job.output
 outputs_of (Rank job) = certificate_outputs job.certificate
 outputs_of _ = []
 

@@ -7,6 +7,7 @@ use Rattle.wg_outside.specs.declared.output.Output.{Output}
 use Rattle.wg_graph.specs.Digraph.{Digraph}
 use Rattle.wg_rank.specs.Intervals.{Intervals}
 use Rattle.wg_words.specs.declared.jobs.Job.{Job}
+use Rattle.wg_words.specs.declared.jobs.RankJob.{RankJob}
 use Rattle.wg_params.specs.declared.layout.Layout.{Layout}
 use Rattle.wg_outcomes.specs.Reached.{Reaches}
 use Rattle.wg_outcomes.specs.Answers.{Answers, HasOutput, IsPutLast, IsUnprinted, status_in}
@@ -16,7 +17,7 @@ use Rattle.wg_outcomes.specs.Judged.{Judged, Written, an_archive, a_certificate,
 use Rattle.wg_outcomes.specs.Promised.{ArePromised, promised_in}
 use Rattle.wg_outcomes.specs.JobFiles.{can_end, input_name, output_name, prints_in_parts, prints_while_reading, writes_files}
 use Rattle.wg_outcomes.specs.Names.{archive_named, certificate_to, held_by}
-use Rattle.wg_outcomes.specs.Ranked.{certificate_text, ranking_text}
+use Rattle.wg_outcomes.specs.Ranked.{certificate_text, text_for}
 use Rattle.wg_outcomes.specs.Readings.{Readings}
 use Rattle.wg_outcomes.specs.Written.{AreAllWhole, HasFiles, IsStopped, greedy_archive, params_for}
 use Rattle.wg_outcomes.specs.declared.ending.Ending.{Ending}
@@ -135,10 +136,10 @@ BuildsArchive l g base told_files told_out before after result =
     (λ r. greedy_line (params_for l g) g) told_files told_out before after result
 
 -- The certificate of bounds, and the first lines of the ranking by them.
-abbrev pub CertifiesRanking : Intervals → List ℕ → ℕ → Bool → Bool → Outside → Outside → Result (Unit {0}) Ending
-    → Type 0
-CertifiesRanking b name top told_files told_out before after result =
-    Produces (certificate_to name) (a_certificate (certificate_text b)) (λ r. ranking_text r b top)
+abbrev pub CertifiesRanking : Intervals → List ℕ → RankJob → Bool → Bool → Outside → Outside
+    → Result (Unit {0}) Ending → Type 0
+CertifiesRanking b name job told_files told_out before after result =
+    Produces (certificate_to name) (a_certificate (certificate_text b)) (λ r. text_for r job b)
     told_files told_out before after result
 
 -- the greedy archive of a graph, and its line, by a function that changes a depot and an output
@@ -148,9 +149,9 @@ Builds d o l g base before after out out' result =
     BuildsArchive l g base d.told o.told (outside (d.files before) (d.counts before) (o.taken out) (out_counts o out))
     (outside (d.files after) (d.counts after) (o.taken out') (out_counts o out')) result
 
-abbrev pub Certifies : {D O : Type 0} → depot.Ghosts D → sink.Ghosts O → Intervals → List ℕ → ℕ → D → D → O → O
+abbrev pub Certifies : {D O : Type 0} → depot.Ghosts D → sink.Ghosts O → Intervals → List ℕ → RankJob → D → D → O → O
     → Result (Unit {0}) Ending → Type 0
-Certifies d o b name top before after out out' result =
-    CertifiesRanking b name top d.told o.told
+Certifies d o b name job before after out out' result =
+    CertifiesRanking b name job d.told o.told
     (outside (d.files before) (d.counts before) (o.taken out) (out_counts o out))
     (outside (d.files after) (d.counts after) (o.taken out') (out_counts o out')) result

@@ -46,6 +46,10 @@ rank_lines s pages = joined (map (rank_line s) pages)
 abbrev pub ranking_text : Readings → Intervals → ℕ → List ℕ
 ranking_text r b top = let s = positions_of r b in rank_lines s (take top s.pages)
 
+-- what a ranking prints by these bounds
+abbrev pub text_for : Readings → RankJob → Intervals → List ℕ
+text_for r job b = ranking_text r b job.top
+
 -- the certificate of these bounds: the damping, the pages, and the lower bound of each
 abbrev pub certificate_text : Intervals → List ℕ
 certificate_text b = text_of_claim (claim_of_bounds b)
@@ -94,7 +98,7 @@ pub record PrintsRankingOf (r : Readings) (graph : Digraph) (given : Option (Lis
     (old new : List ℕ) : Type 0 where
   pub proper : IsGraph graph
   pub weights : AreWeights graph.nodes (weights_of graph.nodes given)
-  pub printed : new ≡ old ++ ranking_text r (bounds_for job graph given) job.top
+  pub printed : new ≡ old ++ text_for r job (bounds_for job graph given)
   pub proven : IsProvenRanking r (bounds_for job graph given) graph
 
 -- What is printed is the proven ranking of the graph that the files stand for, by the weights that they hold.

@@ -1,7 +1,9 @@
 ghost use Rattle.std.specs.Prelude.{◌≡◌};
 
 use crate::Status;
+use crate::outputs::output_ending;
 use std::alloc::AllocError;
+use wg_outside::WriteError;
 
 /// The status that ends a job, with what the properties promise if the line on standard error names it: the number of
 /// arcs beside fewer that were found, or of pages beside fewer numbers.
@@ -31,5 +33,16 @@ impl From<AllocError> for Ending {
 
     fn from(_error: AllocError) -> Self {
         Ending::of(Status::Memory)
+    }
+}
+
+/// A write that failed is one of the output.
+impl From<WriteError> for Ending {
+    ghost use Rattle.wg_outcomes.specs.Answers.{unput};
+
+    ghost from_gives = { λ w e. e ≡ unput w };
+
+    fn from(error: WriteError) -> Self {
+        output_ending(error)
     }
 }

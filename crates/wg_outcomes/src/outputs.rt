@@ -1,7 +1,7 @@
 //! How a job ends that one of its outputs stopped.
 ghost use Rattle.std.specs.Prelude.{◌≡◌};
 ghost use Rattle.wg_outside.specs.declared.output.Output.TheVariants.{Out};
-ghost use Rattle.wg_outcomes.specs.Answers.{IsUnput};
+ghost use Rattle.wg_outcomes.specs.Answers.{IsUnput, unput};
 ghost use Rattle.wg_outcomes.specs.Written.{IsStoppedAt};
 
 use crate::{Ending, Status};
@@ -9,6 +9,7 @@ use wg_outside::{Output, WriteError};
 
 /// How a job ends whose output the sink does not take.
 pub fn output_ending(error: WriteError) -> Ending
+    ensures value { result ≡ unput error }
     ensures only { IsUnput result.status }
     ensures fault { result.status ≡ Status.WriteFault Out → error ≡ WriteError.Failed }
     ensures want { result.status ≡ Status.Memory → error ≡ WriteError.Memory }

@@ -1,5 +1,5 @@
 -- How `check` goes on from the parameters, or stops at the graph or at the offsets.
-use Rattle.std.proofs.Common.{◌≡◌, ◌⊎◌, ◌∙◌, inl, inr, ℕ, Bool, List, [], ◌∷◌, Option, None, Ok, Err, refl, sym, ap}
+use Rattle.std.proofs.Common.{◌≡◌, ◌⊎◌, ◌∙◌, inl, inr, ℕ, Bool, List, [], ◌∷◌, Option, None, Ok, Err, refl, sym, ap, arith}
 use Rattle.std.specs.Bool.{IsTrue}
 use Rattle.wg_outside.specs.Outside.{Files, Counts}
 use Rattle.wg_outside.proofs.FilesLemmas.{none_falls-trans}
@@ -54,20 +54,10 @@ module _ (base : List ℕ) (p : Parameters) (td to : Bool) (before : Outside) (f
 
   -- the validation as a step at one file, if the other holds what it does
   by_graph : ComesTo (Check base) p td before files counts (Offsets ∷ Properties ∷ []) (λ r h. both r (h Graph) (held_by (file_of base) files Offsets) line)
-  by_graph = record {
-    goes = λ t r h holds. k.goes t r h holds.1 ∙ ap (λ (o : Option (List ℕ)). both r (h Graph) o line) (holds.0 ∙ here Offsets);
-    given = k.given;
-    same = k.same;
-    later = k.later;
-  }
+  by_graph = grind arith
 
   by_offsets : ComesTo (Check base) p td before files counts (Graph ∷ Properties ∷ []) (λ r h. both r (held_by (file_of base) files Graph) (h Offsets) line)
-  by_offsets = record {
-    goes = λ t r h holds. k.goes t r h holds.1 ∙ ap (λ (o : Option (List ℕ)). both r o (h Offsets) line) (holds.0 ∙ here Graph);
-    given = k.given;
-    same = k.same;
-    later = k.later;
-  }
+  by_offsets = grind arith
 
   -- one of them is not
   pub check_stops : (after : Outside) (e : Ending) → after.taken ≡ before.taken → JudgesFiles base p td files after.files counts after.counts (Err e) → Performs (Check base) td to before after e.status e.promised

@@ -29,7 +29,6 @@ use Rattle.wg_outcomes.proofs.Statuses.{IsOwn, any_faults, bad_own, no_write, ow
 use Rattle.wg_readings.proofs.UnderWay.{IsUnderWay, all_read, ends_caused, first_read, cause_later}
 use Rattle.wg_outside.specs.declared.output.Output.{Output}
 use Rattle.wg_words.specs.declared.jobs.Job.{Job}
-use Rattle.wg_words.specs.declared.jobs.Job.TheVariants.{Show}
 use Rattle.wg_outcomes.specs.Reached.{Reaches}
 use Rattle.wg_outcomes.specs.Causes.{HasCause}
 use Rattle.wg_outcomes.specs.Judged.{Judged, accepted, output_of, status_of}
@@ -38,7 +37,7 @@ use Rattle.wg_outcomes.specs.JobFiles.{input_name, output_name, prints_in_parts,
 use Rattle.wg_outcomes.specs.declared.status.Input.{Input}
 use Rattle.wg_readings.proofs.JobSteps.{ComesTo, Hold, reaches}
 use Rattle.wg_outcomes.proofs.PerformsLemmas.{files_same, nothing_whole}
-use Rattle.wg_readings.proofs.JobPasses.{StopsOrUnput, graph_known, hindered_output, hindered_promised, pass_possible, pass_read}
+use Rattle.wg_readings.proofs.JobPasses.{StopsOrUnput, graph_known, pass_possible, pass_read}
 
 -- ---- texts that grow with the records
 
@@ -65,22 +64,18 @@ less_out out left more due text some bytes whole = omega (arith, some, ap length
 
 -- a stop at a file is no fault of an output
 not_of_out : (n : ℕ) (e : Ending) → IsStopAt Graph n e → e.status ≡ WriteFault Out → ⊥
-not_of_out n e (inl only) is = no_write Graph e.status Out only is
-not_of_out n e (inr bad) is = subst IsOwn is (bad_own Graph n e bad)
+not_of_out n e h h2 = grind arith
 
 puts_some : (due old new : List ℕ) (r : Result (Unit {0}) Ending) → Puts due old new r → PutsUpTo due old new r
-puts_some due old new (Ok done) put = put
-puts_some due old new (Err e) put = (put.0, λ is. put.1, put.2)
+puts_some due old new r h = grind arith
 
 -- ---- why a pass ended
 
 hinders_in : (r : Result (Unit {0}) Ending) → IfErr r (λ e. IsUnput e.status) → IfErr r (λ e. IsHindrance e.status)
-hinders_in (Ok done) only = tt
-hinders_in (Err e) only = unput_hinders e.status only
+hinders_in r h = grind arith
 
 only_in : (n : ℕ) (r : Result (Unit {0}) Ending) → IfErr r (λ e. IsUnput e.status) → IfErr r (λ e. IsStopAt Graph n e ⊎ IsUnput e.status)
-only_in n (Ok done) only = tt
-only_in n (Err e) only = inr only
+only_in n r h = grind arith
 
 -- the exit of a `?`
 pub prints_exit : (base : List ℕ) (p : Parameters) (text : Accepted → List ℕ) (td to : Bool) (before after : Outside) (r : Result (Unit {0}) Ending) (e : Ending) → IsErrAnd r (λ x. x ≡ e)
@@ -90,14 +85,7 @@ prints_exit base p text td to before after r e is h = subst (λ (x : Result (Uni
 module _ (base : List ℕ) (p : Parameters) (text : Accepted → List ℕ) (td to : Bool) (files : Files) (counts : List ℕ → Counts) (t0 : List ℕ) (f0 : OutCounts) where
   -- nothing was begun, since memory ran out
   pub prints_none : (e : Ending) → e.status ≡ Memory → PrintsGraph base p text td to (outside files counts t0 f0) (outside files counts t0 f0) (Err e)
-  prints_none e want = record {
-    same = refl;
-    later = record { read_faults = λ n. omega arith; write_faults = λ n. omega arith; absences = λ n. omega arith; wants = λ n. omega arith };
-    only = inr (inr want);
-    causes = own_caused _ _ _ _ _ _ e.status (subst IsOwn (sym want) tt);
-    hindered = λ t x g. unput_hinders e.status (inr want);
-    puts = λ t o x g. (0, λ is. absurd (let no : Memory ≡ WriteFault Out = sym want ∙ is in cc), sym (append-nil t0));
-  }
+  prints_none e want = grind (arith, append-nil, IsOwn, own_caused, unput_hinders)
 
   module _ (limits : IsWithinLimits p) (grows : Grows text) (files1 : Files) (counts1 : List ℕ → Counts) (n : ℕ) (a : Reading) (t1 : List ℕ) where
     -- the reading stopped
@@ -157,16 +145,13 @@ module _ (base : List ℕ) (p : Parameters) (text : Accepted → List ℕ) (td t
 -- ---- the job
 output_up_to : (due old new : List ℕ) (r : Result (Unit {0}) Ending) → IfErr r (λ e. IsHindrance e.status) → ((o : Output) → o ≢ Out → status_in r ≢ WriteFault o) → PutsUpTo due old new r
     → HasOutput due old new (status_in r)
-output_up_to due old new (Ok done) hindered none put = put
-output_up_to due old new (Err e) hindered none put = hindered_output due old new e.status hindered none put
+output_up_to due old new r h h2 h3 = grind arith
 
 pass_promised : (held : Input → Option (List ℕ)) (r : Result (Unit {0}) Ending) → IfErr r (λ e. IsHindrance e.status) → ArePromised held (status_in r) (promised_in r)
-pass_promised held (Ok done) h = tt
-pass_promised held (Err e) h = hindered_promised held e.status e.promised h
+pass_promised held r h = grind arith
 
 answers_in : (j : Judged) (text : List ℕ) (r : Result (Unit {0}) Ending) → j ≡ accepted text → IfErr r (λ e. IsHindrance e.status) → Answers j (status_in r)
-answers_in j text (Ok done) is h = inl (sym (ap status_of is))
-answers_in j text (Err e) is h = inr h
+answers_in j text r h h2 = grind arith
 
 -- the cause of a pass's end, by the names of the job
 pass_caused : (names inputs : Input → Option (List ℕ)) (outputs : Output → Option (List ℕ)) (n : ℕ) (old mid new : List ℕ → Counts) (f f' : ℕ) (r : Result (Unit {0}) Ending) → inputs Graph ≡ names Graph
@@ -184,8 +169,7 @@ pass_caused names inputs outputs n old mid new f f' (Err e) named (inl (inr bad)
 pass_caused names inputs outputs n old mid new f f' (Err e) named (inr unput) later h = unput_cause inputs outputs old new f f' (Err e) unput h.out_fault
 
 in_parts : (job : Job) → prints_while_reading job ≡ true → prints_in_parts job ≡ true
-in_parts (Show base pages) prints = refl
-in_parts _ prints = prints
+in_parts job h = grind arith
 
 -- the file was validated, and a text of its graph was printed while it was read again
 pub printed_again : (base : List ℕ) (p : Parameters) (print : Accepted → List ℕ) (job : Job) (td to : Bool) (before mid after : Outside) (read : List Input) (files : Files) (counts : List ℕ → Counts) (r : Result (Unit {0}) Ending)

@@ -20,7 +20,7 @@ use Rattle.wg_params.specs.Parameters.{Parameters}
 use Rattle.wg_readings.specs.Passes.{accepted_of, graph_then}
 use Rattle.wg_queries.specs.Printed.{head_of, job_of, listed, piece_of}
 use Rattle.wg_queries.specs.declared.printing.Listing.{Listing}
-use Rattle.wg_queries.specs.declared.printing.Listing.TheVariants.{Arcs, Ascii, Offsets}
+use Rattle.wg_queries.specs.declared.printing.Listing.TheVariants.{Arcs}
 use Rattle.wg_queries.proofs.PrintedJobs.{Grows}
 
 -- ---- a line for each
@@ -43,43 +43,32 @@ ascii_more n w ws =
 -- ---- arcs
 
 last_lines : (u : ℕ) (lists : List (List ℕ)) (list : List ℕ) → lines_from u (lists ++ list ∷ []) ≡ lines_from u lists ++ page_lines (u + length lists) list
-last_lines u [] list =
-    let at : u ≡ u + length {A = List ℕ} [] = omega arith in
-    append-nil (page_lines u list) ∙ ap (λ (k : ℕ). page_lines k list) at
+last_lines u [] list = grind (arith, append-nil)
 last_lines u (l ∷ lists) list =
     let at : u + 1 + length lists ≡ u + length (l ∷ lists) = omega arith in
     ap (λ (t : List ℕ). page_lines u l ++ t) (last_lines (u + 1) lists list ∙ ap (λ (k : ℕ). lines_from (u + 1) lists ++ page_lines k list) at)
     ∙ sym (append_assoc (page_lines u l) (lines_from (u + 1) lists) (page_lines (u + length (l ∷ lists)) list))
 
 arcs_more : (w : Whole) (ws : List Whole) → lines_from 0 (lists_of (w ∷ ws)) ≡ lines_from 0 (lists_of ws) ++ page_lines (length ws) w.known.list
-arcs_more w ws =
-    let count : 0 + length (lists_of ws) ≡ length ws = omega (arith, length-lists ws) in
-    ap (lines_from 0) (lists_more w ws) ∙ last_lines 0 (lists_of ws) w.known.list
-    ∙ ap (λ (k : ℕ). lines_from 0 (lists_of ws) ++ page_lines k w.known.list) count
+arcs_more w ws = grind (arith, length-lists, lists_more, last_lines)
 
 -- ---- any of them, of a graph of so many pages
 
 pieces_more : (listing : Listing) (pages : ℕ) (w : Whole) (ws : List Whole) → listed listing pages (accepted_of (w ∷ ws)) ≡ listed listing pages (accepted_of ws) ++ piece_of listing (length ws) w.known.list w.end
-pieces_more Arcs pages w ws = arcs_more w ws
-pieces_more Ascii pages w ws = ascii_more pages w ws
-pieces_more Offsets pages w ws = offsets_more w ws
+pieces_more listing pages w ws = grind (arith, offsets_more, ascii_more, arcs_more)
 
 pub listed_grow : (listing : Listing) (pages : ℕ) → Grows (listed listing pages)
 listed_grow listing pages w ws = (piece_of listing (length ws) w.known.list w.end, pieces_more listing pages w ws)
 
 -- before the first record
 head_is : (listing : Listing) (pages : ℕ) → listed listing pages (accepted_of []) ≡ head_of listing pages
-head_is Arcs pages = refl
-head_is Ascii pages = append-nil (nodes_line pages)
-head_is Offsets pages = append-nil (number_line 0)
+head_is listing pages = grind (arith, append-nil)
 
 pub head_printed : (listing : Listing) (pages : ℕ) (a b waited waits : List ℕ) → waited ≡ [] → HasPrinted a b waited (head_of listing pages) waits → HasPrinted a b [] (listed listing pages (accepted_of [])) waits
-head_printed listing pages a b waited waits none h =
-    subst (λ (t : List ℕ). HasPrinted a b [] t waits) (sym (head_is listing pages)) (subst (λ (w : List ℕ). HasPrinted a b w (head_of listing pages) waits) none h)
+head_printed listing pages a b waited waits none h = grind (arith, head_is)
 
 pub head_less : (listing : Listing) (pages : ℕ) (a b waited : List ℕ) → waited ≡ [] → HasPrintedLess a b waited (head_of listing pages) → HasPrintedLess a b [] (listed listing pages (accepted_of []))
-head_less listing pages a b waited none h =
-    subst (λ (t : List ℕ). HasPrintedLess a b [] t) (sym (head_is listing pages)) (subst (λ (w : List ℕ). HasPrintedLess a b w (head_of listing pages)) none h)
+head_less listing pages a b waited none h = grind (arith, head_is)
 
 -- one record more, which is that of this page
 module _ (listing : Listing) (pages : ℕ) (a b c mid : List ℕ) (n : ℕ) (list : List ℕ) (end : ℕ) (w : Whole) (ws : List Whole) (count : length ws ≡ n) (list_is : w.known.list ≡ list) (end_is : w.end ≡ end)
@@ -104,25 +93,16 @@ told listing p r h = graph_then r p (h input.Graph) (λ a. accepted (listed list
 
 pub judges : (listing : Listing) (base : List ℕ) (r : Readings) (h : Input → Option (List ℕ)) → judged r (job_of listing base) h ≡ params_then (h input.Properties) (λ p. told listing p r h)
 judges Arcs base r h = refl
-judges Ascii base r h = refl
-judges Offsets base r h = refl
+judges _ base r h = refl
 
 pub named_properties : (listing : Listing) (base : List ℕ) → input_name (job_of listing base) input.Properties ≡ file_of base input.Properties
-named_properties Arcs base = refl
-named_properties Ascii base = refl
-named_properties Offsets base = refl
+named_properties listing base = grind arith
 
 pub named_graph : (listing : Listing) (base : List ℕ) → input_name (job_of listing base) input.Graph ≡ file_of base input.Graph
-named_graph Arcs base = refl
-named_graph Ascii base = refl
-named_graph Offsets base = refl
+named_graph listing base = grind arith
 
 pub none_written : (listing : Listing) (base : List ℕ) → writes_files (job_of listing base) ≡ false
-none_written Arcs base = refl
-none_written Ascii base = refl
-none_written Offsets base = refl
+none_written listing base = grind arith
 
 pub prints_reading : (listing : Listing) (base : List ℕ) → prints_while_reading (job_of listing base) ≡ true
-prints_reading Arcs base = refl
-prints_reading Ascii base = refl
-prints_reading Offsets base = refl
+prints_reading listing base = grind arith

@@ -1,5 +1,5 @@
 -- How each step of `rank` leads on or ends it.
-use Rattle.std.proofs.Common.{◌≡◌, ◌∙◌, ℕ, Bool, nat_lt, List, [], ◌∷◌, ◌++◌, length, Option, Some, None, Result, Ok, Err, refl, sym, ap, subst}
+use Rattle.std.proofs.Common.{◌≡◌, ◌∙◌, ℕ, Bool, nat_lt, List, [], ◌∷◌, ◌++◌, length, Option, Some, None, Result, Ok, Err, refl, sym, ap, subst, arith}
 use Rattle.std.specs.Bool.{IsTrue}
 use Rattle.std.specs.Result.{IfErr}
 use Rattle.wg_outside.specs.Outside.{Files, Counts, Increased}
@@ -21,10 +21,10 @@ use Rattle.wg_outcomes.specs.declared.ending.Ending.{Ending}
 use Rattle.wg_outcomes.specs.declared.status.Input.{Input}
 use Rattle.wg_outcomes.specs.declared.status.Input.TheVariants.{Properties, Graph, Weights}
 use Rattle.wg_outcomes.specs.declared.status.Status.TheVariants.{Memory, WriteFault}
-use Rattle.wg_outcomes.specs.Commands.{ranks}
+use Rattle.wg_outcomes.specs.Commands.{ranks, with_certificate}
 use Rattle.wg_outcomes.specs.Performs.{CertifiesRanking, OutCounts, Outside, Performs, Produces, outside}
 use Rattle.wg_rank.specs.Rounds.{bounds_after}
-use Rattle.wg_outcomes.specs.Ranked.{bounds_for, certificate_text, ranking_text}
+use Rattle.wg_outcomes.specs.Ranked.{bounds_for, certificate_text, text_for}
 use Rattle.wg_outcomes.proofs.BuildLemmas.{produced}
 use Rattle.wg_readings.proofs.JobSteps.{ComesTo, ends_without, judges_rest, prints}
 use Rattle.wg_readings.proofs.GraphJobs.{IsOfGraph, behind_graph}
@@ -34,17 +34,14 @@ use Rattle.wg_readings.proofs.GraphJobs as graphs
 pub last_is : (graph still : Digraph) (b : Intervals) (given : Option (List ℕ)) (job : RankJob) (last : Intervals) → still ≡ graph
     → (b.weights ≡ weights_of still.nodes given → last ≡ bounds_after still given b.damping job.rounds)
     → b.weights ≡ weights_of graph.nodes given → b.damping ≡ job.damping → last ≡ bounds_for job graph given
-last_is graph still b given job last same after weighed damped =
-    subst (λ (h : Digraph). b.weights ≡ weights_of h.nodes given → last ≡ bounds_after h given b.damping job.rounds) same after weighed
-    ∙ ap (λ (d : ℕ). bounds_after graph given d job.rounds) damped
+last_is graph still b given job last same after weighed damped = grind arith
 
 weights_last : (base : List ℕ) (name : Option (List ℕ)) → name_of_input (record_files base ++ weights_file name) Weights ≡ weights_named name Weights
-weights_last base None = refl
-weights_last base (Some name) = refl
+weights_last base _ = refl
 
 -- what is left to do with the weights
 abbrev behind : RankJob → Parameters → Digraph → Option (List ℕ) → Readings → (Input → Option (List ℕ)) → Judged
-behind job p g given r h = ranks r job.certificate job.top (bounds_for job g given)
+behind job p g given r h = ranks r job (bounds_for job g given)
 
 pub of_graph : (job : RankJob) → IsOfGraph (Rank job) job.base (behind_graph job.weights (behind job))
 of_graph job = record { text_named = refl; graph_named = refl; judges = λ r h. refl }
@@ -68,25 +65,25 @@ module _ (job : RankJob) (td to : Bool) (before : Outside) where
 
       module _ (b : Intervals) (is : b ≡ bounds_for job graph given) where
         -- the ranking is printed, and nothing is written
-        pub only_prints : job.certificate ≡ None → (taken : List ℕ) (out : OutCounts) (r : Result (Unit {0}) Ending) → (IsTrue to → (q : Readings) → Puts (ranking_text q b job.top) before.taken taken r)
+        pub only_prints : job.certificate ≡ None → (taken : List ℕ) (out : OutCounts) (r : Result (Unit {0}) Ending) → (IsTrue to → (q : Readings) → Puts (text_for q job b) before.taken taken r)
             → IfErr r (λ e. IsUnput e.status) → (status_in r ≡ WriteFault Out → Increased before.out.faults out.faults) → (status_in r ≡ Memory → Increased before.out.wants out.wants)
             → Performs (Rank job) td to before (outside files2 counts2 taken out) (status_in r) (promised_in r)
         only_prints none taken out r puts only rose wanted =
-            prints (Rank job) job.base td to before p files2 counts2 (Weights ∷ Graph ∷ Properties ∷ []) (behind job p graph given) come (λ q. ranking_text q b job.top)
-            (λ q. ap (λ (x : Intervals). ranks q job.certificate job.top x) (sym is) ∙ ap (λ (o : Option (List ℕ)). ranks q o job.top b) none)
+            prints (Rank job) job.base td to before p files2 counts2 (Weights ∷ Graph ∷ Properties ∷ []) (behind job p graph given) come (λ q. text_for q job b)
+            (λ q. ap (λ (x : Intervals). ranks q job x) (sym is) ∙ ap (λ (o : Option (List ℕ)). with_certificate o (certificate_text b) (text_for q job b)) none)
             (ap (λ (o : Option (List ℕ)). nat_lt 0 (length (certificate_outputs o))) none) taken out r puts only rose (λ apart. wanted)
 
         -- the certificate is written before
         pub certifies : (to_name : List ℕ) → job.certificate ≡ Some to_name → (after : Outside) (r : Result (Unit {0}) Ending)
-            → CertifiesRanking b to_name job.top td to (outside files2 counts2 before.taken before.out) after r → Performs (Rank job) td to before after (status_in r) (promised_in r)
+            → CertifiesRanking b to_name job td to (outside files2 counts2 before.taken before.out) after r → Performs (Rank job) td to before after (status_in r) (promised_in r)
         certifies to_name some after r h =
-            produced (Rank job) td to before after files2 counts2 (a_certificate (certificate_text b)) (λ q. ranking_text q b job.top) r
+            produced (Rank job) td to before after files2 counts2 (a_certificate (certificate_text b)) (λ q. text_for q job b) r
             (ap (λ (o : Option (List ℕ)). nat_lt 0 (length (certificate_outputs o))) some)
             (λ t q.
             let judged_is =
             judges_rest (Rank job) job.base td to before p files2 counts2 (Weights ∷ Graph ∷ Properties ∷ []) (behind job p graph given) come t q
-            ∙ ap (λ (x : Intervals). ranks q job.certificate job.top x) (sym is) ∙ ap (λ (o : Option (List ℕ)). ranks q o job.top b) some in
+            ∙ ap (λ (x : Intervals). ranks q job x) (sym is) ∙ ap (λ (o : Option (List ℕ)). with_certificate o (certificate_text b) (text_for q job b)) some in
             (ap status_of judged_is, ap output_of judged_is, ap files_of judged_is))
             come.same come.later
-            (subst (λ (o : Option (List ℕ)). Produces (name_of_output (certificate_outputs o)) (a_certificate (certificate_text b)) (λ q. ranking_text q b job.top)
+            (subst (λ (o : Option (List ℕ)). Produces (name_of_output (certificate_outputs o)) (a_certificate (certificate_text b)) (λ q. text_for q job b)
             td to (outside files2 counts2 before.taken before.out) after r) (sym some) h)

@@ -1,11 +1,10 @@
 -- What `rank` and `verify` promise of every depot.
-use Rattle.std.proofs.Common.{◌≡◌, ◌≢◌, ◌⊎◌, ◌≤◌, ◌∙◌, inl, inr, ℕ, Bool, List, ◌++◌, length, Option, Some, None, Result, Ok, Err, refl, sym, ap, subst}
+use Rattle.std.proofs.Common.{◌≡◌, ◌≢◌, ◌⊎◌, ◌≤◌, ◌∙◌, inl, inr, ℕ, Bool, List, ◌++◌, length, Option, Some, None, Result, Err, sym, ap, arith}
 use Rattle.std.specs.Result.{IfErr, IsErrAnd}
 use Rattle.wg_outside.specs.Outside.{Counts, Files, NonDecreasing}
 use Rattle.wg_outside.specs.Puts.{Puts}
 use Rattle.wg_outside.specs.declared.depot.Depot as depot
 use Rattle.wg_outside.specs.declared.sink.Sink as sink
-use Rattle.wg_outside.specs.declared.output.Output.TheVariants.{Out}
 use Rattle.wg_outside.proofs.PutsLemmas.{is_that_err}
 use Rattle.wg_params.specs.declared.limits.TheConstants.{MOST_DAMPING, MOST_PAGES, MOST_ROUNDS}
 use Rattle.wg_graph.specs.Digraph.{Digraph, IsGraph}
@@ -17,17 +16,16 @@ use Rattle.wg_outcomes.specs.Causes.{IncreasedAt}
 use Rattle.wg_outcomes.specs.Names.{IsOfInput}
 use Rattle.wg_outcomes.specs.Promised.{IsBadFile}
 use Rattle.wg_words.specs.declared.jobs.RankJob.{RankJob}
-use Rattle.wg_outcomes.specs.Ranked.{bounds_for, ranking_text}
+use Rattle.wg_outcomes.specs.Ranked.{bounds_for, text_for}
 use Rattle.wg_outcomes.specs.Readings.{Readings}
 use Rattle.wg_outcomes.specs.Untold.{PrintsSomeGap, PrintsSomeRanking, RanksAnywhere}
 use Rattle.wg_outcomes.specs.Verified.{Leaves, verified_line}
 use Rattle.wg_outcomes.specs.declared.ending.Ending.{Ending}
 use Rattle.wg_outcomes.specs.declared.status.Input.{Input}
-use Rattle.wg_outcomes.specs.declared.status.Input.TheVariants.{Certificate, Graph, Properties, Weights}
-use Rattle.wg_outcomes.specs.declared.status.Status.{Status}
-use Rattle.wg_outcomes.specs.declared.status.Status.TheVariants.{BadCertificate, BadProperties, BadWeights, Done, Memory, WriteFault}
+use Rattle.wg_outcomes.specs.declared.status.Input.TheVariants.{Certificate, Graph, Weights}
+use Rattle.wg_outcomes.specs.declared.status.Status.TheVariants.{Done, Memory}
 use Rattle.wg_outcomes.proofs.RankLemmas.{proven}
-use Rattle.wg_outcomes.proofs.Statuses.{never_done, rose_late}
+use Rattle.wg_outcomes.proofs.Statuses.{never_done}
 use Rattle.wg_readings.specs.Loading.{IsBadCertificate, IsBadWeights, LoadsParams}
 
 -- ---- what ended early was not done
@@ -37,30 +35,23 @@ Undone e = e.status ≢ Done
 pub undone_reading : (i : Input) (e : Ending) → IsOfInput i e.status → Undone e
 undone_reading i e only = never_done i 0 e (inl only)
 
-undone_or_bad : {F : Type 0} (i : Input) (bad : F → Status) → ((f : F) → bad f ≢ Done) → (e : Ending) → IsOfInput i e.status ⊎ ((f : F) × (e.status ≡ bad f)) → Undone e
-undone_or_bad i bad never e (inl only) = undone_reading i e only
-undone_or_bad i bad never e (inr fault) = λ is. never fault.0 (sym fault.1 ∙ is)
-
 pub undone_params : (base : List ℕ) (told : Bool) (files files' : Files) (counts counts' : List ℕ → Counts) (e : Ending) → LoadsParams base told files files' counts counts' (Err e) → Undone e
-undone_params base told files files' counts counts' e h = undone_or_bad Properties BadProperties (λ f is. cc) e h.only
+undone_params base told files files' counts counts' e h = grind (arith, undone_reading)
 
 pub undone_graph : (n : ℕ) (e : Ending) → IsBadFile Graph n e → Undone e
 undone_graph n e bad = never_done Graph n e (inr bad)
 
 pub undone_weights : (n : ℕ) (e : Ending) → IsOfInput Weights e.status ⊎ IsBadWeights n e → Undone e
-undone_weights n e (inl only) = undone_reading Weights e only
-undone_weights n e (inr bad) = λ is. let no : BadWeights bad.0 ≡ Done = sym bad.1 ∙ is in cc
+undone_weights n e h = grind arith
 
 pub undone_claim : (e : Ending) → IsOfInput Certificate e.status ⊎ IsBadCertificate e → Undone e
-undone_claim e (inl only) = undone_reading Certificate e only
-undone_claim e (inr bad) = λ is. let no : BadCertificate bad.0 ≡ Done = sym bad.1 ∙ is in cc
+undone_claim e h = grind arith
 
 pub undone_room : (e : Ending) → e.status ≡ Memory → Undone e
 undone_room e want is = let no : Memory ≡ Done = sym want ∙ is in cc
 
 pub undone_gap : (e : Ending) → (e.status ≡ Memory) ⊎ IsBadCertificate e → Undone e
-undone_gap e (inl want) = undone_room e want
-undone_gap e (inr bad) = λ is. let no : BadCertificate bad.0 ≡ Done = sym bad.1 ∙ is in cc
+undone_gap e h = grind arith
 
 -- the exit of a `?`
 pub undone : (r : Result (Unit {0}) Ending) (e : Ending) → IsErrAnd r (λ x. x ≡ e) → Undone e → status_in r ≢ Done
@@ -68,30 +59,23 @@ undone r e is none done = none (ap status_in (sym (is_that_err r e is)) ∙ done
 
 -- ---- what was done has put out its text
 pub all_put : (text old new : List ℕ) (r : Result (Unit {0}) Ending) → IfErr r (λ e. IsUnput e.status) → Puts text old new r → status_in r ≡ Done → new ≡ old ++ text
-all_put text old new (Ok done) only put is = put
-all_put text old new (Err e) (inl fault) put is = absurd (let no : WriteFault Out ≡ Done = sym fault ∙ is in cc)
-all_put text old new (Err e) (inr want) put is = absurd (let no : Memory ≡ Done = sym want ∙ is in cc)
+all_put text old new r h h2 h3 = grind arith
 
 -- ---- `rank`
 module _ {D O : Type 0} (d : depot.Ghosts D) (o : sink.Ghosts O) (job : RankJob) (before after : D) (out : O) where
   -- it ended before anything was written
   pub ranks_none : (r : Result (Unit {0}) Ending) (e : Ending) → IsErrAnd r (λ x. x ≡ e) → d.files after ≡ d.files before → Undone e
       → RanksAnywhere d o job before after out out (status_in r)
-  ranks_none r e is same none = record {
-    wants = λ want. inl (same, refl);
-    ranking = λ told done. absurd (undone r e is none done);
-  }
+  ranks_none r e is same none = grind arith
 
 -- the counts of before have not fallen when the certificate is begun
 pub wants_since : {A : Type 0} (name : List ℕ) (certificate : Option (List ℕ)) → certificate ≡ Some name → (a b c : List ℕ → Counts) → NonDecreasing a b
     → A ⊎ IncreasedAt (λ k. k.wants) (Some name) b c → A ⊎ IncreasedAt (λ k. k.wants) certificate a c
-wants_since name certificate is a b c later (inl out) = inl out
-wants_since name certificate is a b c later (inr rose) =
-    inr (subst (λ (n : Option (List ℕ)). IncreasedAt (λ k. k.wants) n a c) (sym is) (rose_late (λ k. k.wants) (Some name) a b c later.wants rose))
+wants_since name certificate h a b c h2 h3 = grind arith
 
 -- a ranking by the bounds of a proper graph
 pub some_ranking : (graph : Digraph) (job : RankJob) (given : Option (List ℕ)) → (job.weights ≡ None → given ≡ None) → (b : Intervals) (old new : List ℕ) (r : Readings) → job.rounds ≤ MOST_ROUNDS → job.damping ≤ MOST_DAMPING → IsGraph graph
-    → graph.nodes ≤ MOST_PAGES → AreWeights graph.nodes (weights_of graph.nodes given) → b ≡ bounds_for job graph given → new ≡ old ++ ranking_text r b job.top
+    → graph.nodes ≤ MOST_PAGES → AreWeights graph.nodes (weights_of graph.nodes given) → b ≡ bounds_for job graph given → new ≡ old ++ text_for r job b
     → PrintsSomeRanking r job old new
 some_ranking graph job given alike b old new r few damped proper small heavy is put = (
   graph,
@@ -100,7 +84,7 @@ some_ranking graph job given alike b old new r few damped proper small heavy is 
   record {
     proper = proper;
     weights = heavy;
-    printed = put ∙ ap (λ (x : Intervals). old ++ ranking_text r x job.top) is;
+    printed = put ∙ ap (λ (x : Intervals). old ++ text_for r job x) is;
     proven = proven r job.rounds job.damping few damped graph proper small given heavy;
   },
 )

@@ -1,5 +1,5 @@
 -- How each step of `verify` leads on or ends it.
-use Rattle.std.proofs.Common.{◌≡◌, ◌⊎◌, ℕ, Bool, List, [], ◌∷◌, ◌++◌, is_some, Option, Some, None, Result, Ok, Err, refl}
+use Rattle.std.proofs.Common.{◌≡◌, ◌⊎◌, ℕ, Bool, List, [], ◌∷◌, ◌++◌, is_some, Option, Result, Ok, Err, refl, arith}
 use Rattle.std.specs.Bool.{IsTrue}
 use Rattle.std.specs.Result.{IfErr}
 use Rattle.wg_outside.specs.Outside.{Files, Counts, Increased}
@@ -32,16 +32,13 @@ module _ (base certificate : List ℕ) where
   files given = record_files base ++ weights_file given ++ certificate_file certificate
 
   weights_are : (given : Option (List ℕ)) → name_of_input (files given) Weights ≡ weights_named given Weights
-  weights_are None = refl
-  weights_are (Some name) = refl
+  weights_are given = grind arith
 
   certificate_is : (given : Option (List ℕ)) → name_of_input (files given) Certificate ≡ certificate_named certificate Certificate
-  certificate_is None = refl
-  certificate_is (Some name) = refl
+  certificate_is given = grind arith
 
   has_certificate : (given : Option (List ℕ)) → IsTrue (is_some (name_of_input (files given) Certificate))
-  has_certificate None = refl
-  has_certificate (Some name) = refl
+  has_certificate given = grind arith
 
 -- what is left to do with the claim
 abbrev pub behind_claim : Digraph → Option (List ℕ) → Claim → Readings → (Input → Option (List ℕ)) → Judged

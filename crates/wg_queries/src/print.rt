@@ -4,8 +4,6 @@ ghost use Rattle.wg_outside.specs.Puts.{Puts};
 ghost use Rattle.wg_outside.specs.Refusals.{SinkRefusals};
 ghost use Rattle.wg_outcomes.specs.Answers.{PrintRefusals};
 ghost use Rattle.wg_lines.specs.Printing.{Prints};
-ghost use Rattle.wg_arcs.specs.Text.{page_lines};
-ghost use Rattle.wg_ascii.specs.Text.{list_line, nodes_line};
 ghost use Rattle.wg_lines.specs.declared.lines.TheConstants.{MOST_PIECE};
 ghost use Rattle.wg_outcomes.specs.Ranked.{rank_line, rank_lines};
 ghost use Rattle.wg_rank.specs.declared.limits.TheConstants.{UNITS};
@@ -48,8 +46,8 @@ pub fn print_verified<O: Sink>(
     print_piece(out, verified_line(certificate, left).as_bytes())
 }
 
-// A line of one number.
-fn write_line<S: Sink>(lines: &mut Lines, sink: &mut S, number: u64) -> Result<(), WriteError>
+/// A line of one number.
+pub fn write_line<S: Sink>(lines: &mut Lines, sink: &mut S, number: u64) -> Result<(), WriteError>
     ensures prints { IsTrue S.told → Prints (number_line number) (S.taken sink.old)
         (S.taken sink.new) lines.old lines.new result }
     ensures later { S.later sink.old sink.new }
@@ -57,63 +55,6 @@ fn write_line<S: Sink>(lines: &mut Lines, sink: &mut S, number: u64) -> Result<(
 {
     lines.number(sink, number)?;
     lines.byte(sink, b'\n')
-}
-
-/// Prints a line of one number.
-pub fn print_number<O: Sink>(lines: &mut Lines, out: &mut O, number: u64) -> Result<(), Ending>
-    ensures prints { IsTrue O.told → Prints (number_line number) (O.taken out.old)
-        (O.taken out.new) lines.old lines.new result }
-    ensures later { O.later out.old out.new }
-    ensures refusals { PrintRefusals ⟦<O as Sink>⟧ out.old out.new result }
-{
-    match write_line(lines, out, number) {
-        Ok(()) => Ok(()),
-        Err(error) => Err(output_ending(error)),
-    }
-}
-
-/// Prints the lines of the arcs of a page.
-pub fn print_page<O: Sink>(
-    lines: &mut Lines,
-    out: &mut O,
-    page: u64,
-    list: &[u64],
-) -> Result<(), Ending>
-    ensures prints { IsTrue O.told → Prints (page_lines page list.now) (O.taken out.old)
-        (O.taken out.new) lines.old lines.new result }
-    ensures later { O.later out.old out.new }
-    ensures refusals { PrintRefusals ⟦<O as Sink>⟧ out.old out.new result }
-{
-    match wg_arcs::print_list(lines, out, page, list) {
-        Ok(()) => Ok(()),
-        Err(error) => Err(output_ending(error)),
-    }
-}
-
-/// Prints the first line of an ASCIIGraph text.
-pub fn print_nodes<O: Sink>(lines: &mut Lines, out: &mut O, nodes: u64) -> Result<(), Ending>
-    ensures prints { IsTrue O.told → Prints (nodes_line nodes) (O.taken out.old)
-        (O.taken out.new) lines.old lines.new result }
-    ensures later { O.later out.old out.new }
-    ensures refusals { PrintRefusals ⟦<O as Sink>⟧ out.old out.new result }
-{
-    match wg_ascii::print_nodes(lines, out, nodes) {
-        Ok(()) => Ok(()),
-        Err(error) => Err(output_ending(error)),
-    }
-}
-
-/// Prints the line of a page with these successors in an ASCIIGraph text.
-pub fn print_ascii_list<O: Sink>(lines: &mut Lines, out: &mut O, list: &[u64]) -> Result<(), Ending>
-    ensures prints { IsTrue O.told → Prints (list_line list.now) (O.taken out.old)
-        (O.taken out.new) lines.old lines.new result }
-    ensures later { O.later out.old out.new }
-    ensures refusals { PrintRefusals ⟦<O as Sink>⟧ out.old out.new result }
-{
-    match wg_ascii::print_list(lines, out, list) {
-        Ok(()) => Ok(()),
-        Err(error) => Err(output_ending(error)),
-    }
 }
 
 // The line of the page at a place of the ranking.

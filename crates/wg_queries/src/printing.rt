@@ -1,15 +1,15 @@
 //! The commands `arcs`, `ascii` and `offsets`: a text of each record of a graph, one after the other.
 ghost use Rattle.std.specs.Prelude.{IsTrue};
 ghost use Rattle.wg_lines.specs.Printing.{Prints};
-ghost use Rattle.wg_outcomes.specs.Answers.{PrintRefusals};
+ghost use Rattle.wg_outside.specs.Refusals.{SinkRefusals};
 ghost use Rattle.wg_outcomes.specs.Performs.{DoesOrEnds};
 ghost use Rattle.wg_queries.specs.Printed.{PrintsAgain, head_of, job_of, listed, piece_of};
 
-use crate::print::{print_ascii_list, print_nodes, print_number, print_page};
+use crate::print::write_line;
 use std::alloc::Global;
 use wg_lines::Lines;
 use wg_outcomes::{Ending, print_rest};
-use wg_outside::{Depot, Sink};
+use wg_outside::{Depot, Sink, WriteError};
 use wg_params::Params;
 use wg_readings::{end_records, judge_graph, load_params, next_record, open_graph};
 use wg_stream::Reader;
@@ -73,16 +73,16 @@ fn print_head<O: Sink>(
     out: &mut O,
     listing: Listing,
     params: &Params,
-) -> Result<(), Ending>
+) -> Result<(), WriteError>
     ensures prints { IsTrue O.told → Prints (head_of listing params.now.nodes) (O.taken out.old)
         (O.taken out.new) lines.old lines.new result }
     ensures later { O.later out.old out.new }
-    ensures refusals { PrintRefusals ⟦<O as Sink>⟧ out.old out.new result }
+    ensures refusals { SinkRefusals ⟦<O as Sink>⟧ out.old out.new result }
 {
     match listing {
         Listing::Arcs => Ok(()),
-        Listing::Ascii => print_nodes(lines, out, params.nodes()),
-        Listing::Offsets => print_number(lines, out, 0),
+        Listing::Ascii => wg_ascii::print_nodes(lines, out, params.nodes()),
+        Listing::Offsets => write_line(lines, out, 0),
     }
 }
 
@@ -93,15 +93,15 @@ fn print_record<O: Sink>(
     listing: Listing,
     page: u64,
     reader: &Reader,
-) -> Result<(), Ending>
+) -> Result<(), WriteError>
     ensures prints { IsTrue O.told → Prints (piece_of listing page reader.now.pages.list reader.now.at)
         (O.taken out.old) (O.taken out.new) lines.old lines.new result }
     ensures later { O.later out.old out.new }
-    ensures refusals { PrintRefusals ⟦<O as Sink>⟧ out.old out.new result }
+    ensures refusals { SinkRefusals ⟦<O as Sink>⟧ out.old out.new result }
 {
     match listing {
-        Listing::Arcs => print_page(lines, out, page, reader.list()),
-        Listing::Ascii => print_ascii_list(lines, out, reader.list()),
-        Listing::Offsets => print_number(lines, out, reader.at()),
+        Listing::Arcs => wg_arcs::print_list(lines, out, page, reader.list()),
+        Listing::Ascii => wg_ascii::print_list(lines, out, reader.list()),
+        Listing::Offsets => write_line(lines, out, reader.at()),
     }
 }

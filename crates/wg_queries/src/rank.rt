@@ -7,7 +7,7 @@ ghost use Rattle.wg_words.specs.declared.jobs.Job.TheVariants.{Rank};
 ghost use Rattle.wg_outcomes.specs.Answers.{PrintRefusals, status_in};
 ghost use Rattle.wg_outcomes.specs.Causes.{IncreasedAt};
 ghost use Rattle.wg_outcomes.specs.Performs.{Certifies, DoesOrEnds};
-ghost use Rattle.wg_outcomes.specs.Ranked.{ranking_text};
+ghost use Rattle.wg_outcomes.specs.Ranked.{text_for};
 ghost use Rattle.wg_outcomes.specs.Readings.{Readings};
 ghost use Rattle.wg_outcomes.specs.Untold.{RanksAnywhere};
 ghost use Rattle.wg_outcomes.specs.declared.status.Status.TheVariants.{Memory};
@@ -50,20 +50,20 @@ pub fn rank<D: Depot, O: Sink>(
     let pulled = pulled_for(alloc, &mut lists);
     let bounds = bounds_by_rounds(pulled, first, &mut lists, job.rounds);
     match &job.certificate {
-        None => print_ranks(out, bounds, job.top),
-        Some(name) => certify(bounds, name, job.top, depot, out),
+        None => print_ranks(out, bounds, job),
+        Some(name) => certify(bounds, name, job, depot, out),
     }
 }
 
 // Prints the first pages of the ranking by these bounds. It takes no memory, so that the output alone can stop it.
-fn print_ranks<O: Sink>(out: &mut O, bounds: Bounds, top: u64) -> Result<(), Ending>
+fn print_ranks<O: Sink>(out: &mut O, bounds: Bounds, job: &RankJob) -> Result<(), Ending>
     ensures puts { IsTrue O.told → (r : Readings)
-        → Puts (ranking_text r bounds top) (O.taken out.old) (O.taken out.new) result }
+        → Puts (text_for r job.now bounds) (O.taken out.old) (O.taken out.new) result }
     ensures later { O.later out.old out.new }
     ensures refusals { PrintRefusals ⟦<O as Sink>⟧ out.old out.new result }
 {
     let pages = bounds.lower().len() as u64;
-    let first = FirstPages::of(bounds, top.min(pages));
+    let first = FirstPages::of(bounds, job.top.min(pages));
     print_ranking(out, &first)
 }
 
@@ -72,16 +72,16 @@ fn print_ranks<O: Sink>(out: &mut O, bounds: Bounds, top: u64) -> Result<(), End
 fn certify<D: Depot, O: Sink>(
     bounds: Bounds,
     name: &Name,
-    top: u64,
+    job: &RankJob,
     depot: &mut D,
     out: &mut O,
 ) -> Result<(), Ending>
     ensures does { Certifies ⟦<D as Depot>⟧ ⟦<O as Sink>⟧
-        bounds name.now top depot.old depot.new out.old out.new result }
+        bounds name.now job.now depot.old depot.new out.old out.new result }
     ensures later { O.later out.old out.new }
     ensures wants { status_in result ≡ Memory → Increased (O.wants out.old) (O.wants out.new)
         ⊎ IncreasedAt (λ c. c.wants) (Some name.now) (D.counts depot.old) (D.counts depot.new) }
 {
     write_file(&bounds, name, depot)?;
-    print_ranks(out, bounds, top)
+    print_ranks(out, bounds, job)
 }

@@ -15,7 +15,8 @@ use Rattle.wg_grammar.specs.declared.fault.ArchiveFault.{ArchiveFault}
 use Rattle.wg_grammar.specs.declared.fault.ArchiveFault.TheVariants as archive
 use Rattle.wg_shape.specs.Graphs.{union_graph}
 use Rattle.wg_words.specs.declared.jobs.Job.{Job}
-use Rattle.wg_words.specs.declared.jobs.Job.TheVariants.{Union}
+use Rattle.wg_words.specs.Jobs.{writing}
+use Rattle.wg_words.specs.declared.jobs.Origin.TheVariants.{Union}
 use Rattle.wg_params.specs.declared.layout.Layout.{Layout}
 use Rattle.wg_outcomes.specs.Answers.{Answers, IsHindrance, status_in, without}
 use Rattle.wg_outcomes.specs.Causes.{HasCause, IncreasedAt}
@@ -64,7 +65,7 @@ second_answers j s only (inr hinders) = grind (arith, archive_cases)
 
 module _ (first second output : List ℕ) (layout : Layout) (td to : Bool) (before : Outside) where
   abbrev job : Job
-  job = Union first second output layout
+  job = writing output layout (Union first second)
 
   abbrev held : Input → Option (List ℕ)
   held = held_by (input_name job) before.files

@@ -2,7 +2,8 @@
 ghost use Rattle.std.specs.Prelude.{◌≤◌};
 ghost use Rattle.wg_params.specs.Parameters.{IsWithinLimits, params_of};
 ghost use Rattle.wg_params.specs.declared.limits.TheConstants.{MOST_PAGES};
-ghost use Rattle.wg_words.specs.declared.jobs.Job.TheVariants.{Quotient};
+ghost use Rattle.wg_words.specs.Jobs.{writing};
+ghost use Rattle.wg_words.specs.declared.jobs.Origin.TheVariants.{Quotient};
 ghost use Rattle.wg_outcomes.specs.Performs.{DoesOrEnds};
 
 use crate::quotienting::encode_quotient;
@@ -36,7 +37,7 @@ pub fn quotient<D: Depot, O: Sink>(
 ) -> Result<(), Ending>
     requires layout { IsWithinLimits (params_of layout.now 0 0) }
     requires few { classes ≤ MOST_PAGES }
-    ensures { DoesOrEnds ⟦<D as Depot>⟧ ⟦<O as Sink>⟧ (Quotient input.now map.now output.now classes layout.now)
+    ensures { DoesOrEnds ⟦<D as Depot>⟧ ⟦<O as Sink>⟧ (writing output.now layout.now (Quotient input.now map.now classes))
         depot.old depot.new out.old out.new result }
 {
     let params = load_params(alloc, depot, input)?;

@@ -1,7 +1,8 @@
 //! The command `recode`: an archive of the same graph in another layout.
 ghost use Rattle.std.specs.Prelude.{◌≡◌, Err, IfErr, IfOk};
 ghost use Rattle.wg_params.specs.Parameters.{IsWithinLimits, params_of};
-ghost use Rattle.wg_words.specs.declared.jobs.Job.TheVariants.{Recode};
+ghost use Rattle.wg_words.specs.Jobs.{writing};
+ghost use Rattle.wg_words.specs.declared.jobs.Origin.TheVariants.{Recode};
 ghost use Rattle.wg_outcomes.specs.Performs.{DoesOrEnds};
 ghost use Rattle.wg_readings.specs.Loading.{LoadsGraphBy};
 ghost use Rattle.wg_transforms.specs.Recoding.{RecodesBy};
@@ -29,7 +30,7 @@ pub fn recode<D: Depot, O: Sink>(
     out: &mut O,
 ) -> Result<(), Ending>
     requires { IsWithinLimits (params_of layout.now 0 0) }
-    ensures { DoesOrEnds ⟦<D as Depot>⟧ ⟦<O as Sink>⟧ (Recode input.now output.now layout.now)
+    ensures { DoesOrEnds ⟦<D as Depot>⟧ ⟦<O as Sink>⟧ (writing output.now layout.now (Recode input.now))
         depot.old depot.new out.old out.new result }
 {
     let params = load_params(alloc, depot, input)?;

@@ -1,6 +1,7 @@
 //! The command `transpose`: an archive of the transposed graph.
 ghost use Rattle.wg_params.specs.Parameters.{IsWithinLimits, params_of};
-ghost use Rattle.wg_words.specs.declared.jobs.Job.TheVariants.{Transpose};
+ghost use Rattle.wg_words.specs.Jobs.{writing};
+ghost use Rattle.wg_words.specs.declared.jobs.Origin.TheVariants.{Transpose};
 ghost use Rattle.wg_outcomes.specs.Performs.{DoesOrEnds};
 
 use crate::transposing::{encode_transposed, ranges_of_records};
@@ -26,7 +27,7 @@ pub fn transpose<D: Depot, O: Sink>(
     out: &mut O,
 ) -> Result<(), Ending>
     requires { IsWithinLimits (params_of layout.now 0 0) }
-    ensures { DoesOrEnds ⟦<D as Depot>⟧ ⟦<O as Sink>⟧ (Transpose input.now output.now layout.now)
+    ensures { DoesOrEnds ⟦<D as Depot>⟧ ⟦<O as Sink>⟧ (writing output.now layout.now (Transpose input.now))
         depot.old depot.new out.old out.new result }
 {
     let params = load_params(alloc, depot, input)?;

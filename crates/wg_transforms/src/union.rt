@@ -6,7 +6,8 @@ ghost use Rattle.wg_graph.specs.Digraph.{arc_count};
 ghost use Rattle.wg_grammar.specs.Archive.{Accepted};
 ghost use Rattle.wg_grammar.specs.Laws.{accepted_graph};
 ghost use Rattle.wg_shape.specs.Graphs.{union_graph};
-ghost use Rattle.wg_words.specs.declared.jobs.Job.TheVariants.{Union};
+ghost use Rattle.wg_words.specs.Jobs.{writing};
+ghost use Rattle.wg_words.specs.declared.jobs.Origin.TheVariants.{Union};
 ghost use Rattle.wg_transforms.specs.Loaded.{IsLoaded};
 ghost use Rattle.wg_writing.specs.Writing.{IsArchiveOf};
 ghost use Rattle.wg_outcomes.specs.Performs.{DoesOrEnds};
@@ -39,7 +40,7 @@ pub fn union<D: Depot, O: Sink>(
     out: &mut O,
 ) -> Result<(), Ending>
     requires { IsWithinLimits (params_of layout.now 0 0) }
-    ensures { DoesOrEnds ⟦<D as Depot>⟧ ⟦<O as Sink>⟧ (Union first.now second.now output.now layout.now)
+    ensures { DoesOrEnds ⟦<D as Depot>⟧ ⟦<O as Sink>⟧ (writing output.now layout.now (Union first.now second.now))
         depot.old depot.new out.old out.new result }
 {
     let one = load_archive(alloc, depot, first)?;

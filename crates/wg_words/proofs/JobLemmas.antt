@@ -5,15 +5,17 @@ use Rattle.std.proofs.lemmas.Bool.{false_from_ne_true}
 use Rattle.std.proofs.lemmas.Slice.Eq.{bytes_eq-Decides}
 use Rattle.std.proofs.lemmas.Option.{none-some, same_Some, option_and_then_some}
 use Rattle.clap.specs.Words.{Row, Text, first_of}
+use Rattle.wg_params.specs.Parameters.{IsWithinLimits, params_of}
 use Rattle.wg_params.specs.declared.limits.TheConstants.{MOST_PAGES, MOST_DAMPING, MOST_ROUNDS, MOST_GENERATED}
 use Rattle.wg_words.specs.Asked.{IsAsked}
 use Rattle.wg_words.specs.Files.{is_file_of, overwrites, IsNoFileOf, KeepsInputs, ShareNoFile}
 use Rattle.wg_words.specs.Values.{name_in, number_up_to, numbers_in, optional_name_in, unlimited_in}
-use Rattle.wg_words.specs.Jobs.{show_on, spot_on, rank_from, rank_with, rank_on, verifying, verify_on, build_from, build_on, import_from, import_on, conversion_from, conversion_of, conversion_in, quotient_by, quotient_on, quotient_in, recoding, union_with, union_of, union_in, transposing, bulk_in, job_on, job_on_base, job_from, job_of, IsConversion, IsWithin}
+use Rattle.wg_words.specs.Jobs.{show_on, spot_on, rank_from, rank_with, rank_on, verifying, verify_on, build_from, build_on, import_from, import_on, conversion_from, conversion_of, conversion_in, quotient_by, quotient_on, quotient_in, recoding, union_with, union_of, union_in, transposing, bulk_in, job_on, job_on_base, job_from, job_of, writing, IsWithin}
 use Rattle.wg_words.specs.declared.conversion.Conversion.{Conversion}
 use Rattle.wg_words.specs.declared.defaults.TheConstants.{DEFAULT_DAMPING, DEFAULT_ROUNDS, DEFAULT_TOP}
 use Rattle.wg_words.specs.declared.jobs.Job.{Job}
-use Rattle.wg_words.specs.declared.jobs.Job.TheVariants.{Check, Arcs, Ascii, Offsets, Show, Spot, Rank, Build, Import, Quotient, Union, Bulk}
+use Rattle.wg_words.specs.declared.jobs.Job.TheVariants.{Check, Arcs, Ascii, Offsets, Show, Spot, Rank, Bulk}
+use Rattle.wg_words.specs.declared.jobs.Origin.TheVariants.{Build, Import, Quotient, Union}
 use Rattle.wg_words.specs.declared.jobs.JobError.{JobError}
 use Rattle.wg_words.specs.declared.jobs.JobError.TheVariants.{Usage}
 use Rattle.wg_words.proofs.FileLemmas.{no_file, keeps_inputs, no_file_shared_unless}
@@ -73,7 +75,7 @@ build_from_within rows base arcs job apart is =
     option_and_then_some _ _ job is (λ nodes is_nodes then_layout.
     option_and_then_some _ _ job then_layout (λ layout is_layout job_is.
     let few : nodes ≤ MOST_PAGES = option_and_then_some (number_up_to MOST_PAGES) (first_of (codes "nodes") rows) nodes is_nodes (λ text _ found. up_to_within MOST_PAGES text nodes found) in
-    subst IsWithin (same_Some (Build arcs base nodes layout) job job_is) (few, layout_in_within rows layout nodes few is_layout, apart)))
+    subst IsWithin (same_Some (writing base layout (Build arcs nodes)) job job_is) (layout_in_within rows layout is_layout, (few, apart))))
 
 build_on_within : (rows : List Row) (base : Text) (job : Job) → build_on rows base ≡ Some job → IsWithin job
 build_on_within rows base job is =
@@ -82,9 +84,8 @@ build_on_within rows base job is =
 
 import_from_within : (rows : List Row) (base text : Text) (job : Job) → IsNoFileOf base text → import_from rows base text ≡ Some job → IsWithin job
 import_from_within rows base text job apart is =
-    let no_pages : 0 ≤ MOST_PAGES = omega arith in
     option_and_then_some _ _ job is (λ layout is_layout job_is.
-    subst IsWithin (same_Some (Import text base layout) job job_is) (layout_in_within rows layout 0 no_pages is_layout, apart))
+    subst IsWithin (same_Some (writing base layout (Import text)) job job_is) (layout_in_within rows layout is_layout, apart))
 
 import_on_within : (rows : List Row) (base : Text) (job : Job) → import_on rows base ≡ Some job → IsWithin job
 import_on_within rows base job is =
@@ -93,13 +94,12 @@ import_on_within rows base job is =
 
 -- what is known of a conversion
 abbrev IsProper : Conversion → Type 0
-IsProper c = IsConversion c.input c.output c.layout
+IsProper c = IsWithinLimits (params_of c.layout 0 0) × ShareNoFile c.input c.output
 
 conversion_from_within : (rows : List Row) (input output : Text) (c : Conversion) → ShareNoFile input output → conversion_from rows input output ≡ Some c → IsProper c
 conversion_from_within rows input output c apart is =
-    let no_pages : 0 ≤ MOST_PAGES = omega arith in
     option_and_then_some _ _ c is (λ layout is_layout c_is.
-    subst IsProper (same_Some (record { input = input; output = output; layout = layout }) c c_is) (layout_in_within rows layout 0 no_pages is_layout, apart))
+    subst IsProper (same_Some (record { input = input; output = output; layout = layout }) c c_is) (layout_in_within rows layout is_layout, apart))
 
 conversion_of_within : (rows : List Row) (input : Text) (c : Conversion) → conversion_of rows input ≡ Some c → IsProper c
 conversion_of_within rows input c is =
@@ -114,7 +114,7 @@ quotient_by_within : (rows : List Row) (c : Conversion) (map : Text) (job : Job)
 quotient_by_within rows c map job proper apart is =
     option_and_then_some _ _ job is (λ classes is_classes job_is.
     let few : classes ≤ MOST_PAGES = option_and_then_some (number_up_to MOST_PAGES) (first_of (codes "classes") rows) classes is_classes (λ text _ found. up_to_within MOST_PAGES text classes found) in
-    subst IsWithin (same_Some (Quotient c.input map c.output classes c.layout) job job_is) (few, proper, apart))
+    subst IsWithin (same_Some (writing c.output c.layout (Quotient c.input map classes)) job job_is) (proper.0, (few, proper.1, apart)))
 
 quotient_on_within : (rows : List Row) (c : Conversion) (job : Job) → IsProper c → quotient_on rows c ≡ Some job → IsWithin job
 quotient_on_within rows c job proper is =
@@ -131,8 +131,8 @@ mapped_within make h o h2 job h3 = grind arith
 
 union_with_within : (c : Conversion) (second : Text) (job : Job) → IsProper c → union_with c second ≡ Some job → IsWithin job
 union_with_within c second job within =
-    some_unless IsWithin (bytes_eq second c.output) (Some (Union c.input second c.output c.layout)) job
-    (λ other is. subst IsWithin (same_Some (Union c.input second c.output c.layout) job is) (within, no_file_shared_unless second c.output other))
+    some_unless IsWithin (bytes_eq second c.output) (Some (writing c.output c.layout (Union c.input second))) job
+    (λ other is. subst IsWithin (same_Some (writing c.output c.layout (Union c.input second)) job is) (within.0, (within.1, no_file_shared_unless second c.output other)))
 
 union_in_within : (rows : List Row) (job : Job) → union_in rows ≡ Some job → IsWithin job
 union_in_within rows job is =

@@ -50,10 +50,11 @@ codes_within rows factor given is =
       offsets = gamma_or_delta_within (word_in rows (codes "offsets") DEFAULT_OFFSETS.now) offsets is_offsets;
     })))))))
 
-pub layout_in_within : (rows : List Row) (layout : Layout) (pages : ℕ) → pages ≤ MOST_PAGES → layout_in rows ≡ Some layout → IsWithinLimits (params_of layout pages 0)
-layout_in_within rows layout pages few_pages is =
+pub layout_in_within : (rows : List Row) (layout : Layout) → layout_in rows ≡ Some layout → IsWithinLimits (params_of layout 0 0)
+layout_in_within rows layout is =
     let near : DEFAULT_WINDOW ≤ MOST_WINDOW = omega arith in
     let small : DEFAULT_INTERVAL ≤ MOST_INTERVAL = omega arith in
+    let no_pages : 0 ≤ MOST_PAGES = omega arith in
     let no_links : 0 ≤ MOST_ARCS = omega arith in
     option_and_then_some _ _ layout is (λ window is_window then_chain.
     option_and_then_some _ _ layout then_chain (λ chain is_chain then_interval.
@@ -62,8 +63,8 @@ layout_in_within rows layout pages few_pages is =
     option_and_then_some _ _ layout then_codes (λ given is_given layout_is.
     let factor = zeta_within rows zeta is_zeta in
     let coded = codes_within rows zeta given is_given in
-    subst (λ (l : Layout). IsWithinLimits (params_of l pages 0)) (same_Some (record { window = window; chain = chain; interval = interval; zeta = zeta; codes = given }) layout layout_is) (record {
-      nodes = few_pages;
+    subst (λ (l : Layout). IsWithinLimits (params_of l 0 0)) (same_Some (record { window = window; chain = chain; interval = interval; zeta = zeta; codes = given }) layout layout_is) (record {
+      nodes = no_pages;
       arcs = no_links;
       window = number_within DEFAULT_WINDOW MOST_WINDOW (first_of (codes "window") rows) window near is_window;
       chain = chain_within (first_of (codes "chain") rows) chain is_chain;

@@ -11,7 +11,9 @@ use Rattle.wg_words.specs.Values.{name_in, number_in, numbers_in, optional_name_
 use Rattle.wg_words.specs.declared.conversion.Conversion.{Conversion}
 use Rattle.wg_words.specs.declared.defaults.TheConstants.{DEFAULT_DAMPING, DEFAULT_ROUNDS, DEFAULT_TOP}
 use Rattle.wg_words.specs.declared.jobs.Job.{Job}
-use Rattle.wg_words.specs.declared.jobs.Job.TheVariants.{Check, Arcs, Ascii, Offsets, Show, Spot, Rank, Verify, Build, Import, Quotient, Recode, Union, Transpose, Bulk}
+use Rattle.wg_words.specs.declared.jobs.Job.TheVariants.{Check, Arcs, Ascii, Offsets, Show, Spot, Rank, Verify, Write, Bulk}
+use Rattle.wg_words.specs.declared.jobs.Origin.{Origin}
+use Rattle.wg_words.specs.declared.jobs.Origin.TheVariants.{Build, Import, Quotient, Recode, Union, Transpose}
 use Rattle.wg_params.specs.declared.layout.Layout.{Layout}
 
 -- the successors of the pages of an archive that the words name, in their order
@@ -55,11 +57,15 @@ verify_on rows base =
     option_and_then (λ certificate. option_map (verifying base certificate) (optional_name_in rows (codes "weights")))
     (name_in rows (codes "certificate"))
 
+-- the writing of an archive
+abbrev pub writing : Text → Layout → Origin → Job
+writing output layout origin = Write (record { output = output; layout = layout; origin = origin })
+
 -- the building of an archive from a file, with the pages and the layout that the options give
 abbrev pub build_from : List Row → Text → Text → Option Job
 build_from rows base arcs =
     option_and_then (λ nodes.
-    option_and_then (λ layout. Some (Build arcs base nodes layout))
+    option_and_then (λ layout. Some (writing base layout (Build arcs nodes)))
     (layout_in rows))
     (required_in rows (codes "nodes") MOST_PAGES)
 
@@ -71,7 +77,7 @@ build_on rows base =
 
 -- the building of an archive from an ASCIIGraph text, with the layout that the options give
 abbrev pub import_from : List Row → Text → Text → Option Job
-import_from rows base text = option_and_then (λ layout. Some (Import text base layout)) (layout_in rows)
+import_from rows base text = option_and_then (λ layout. Some (writing base layout (Import text))) (layout_in rows)
 
 -- the building of an archive from an ASCIIGraph text that is none of its files
 abbrev pub import_on : List Row → Text → Option Job
@@ -96,12 +102,13 @@ conversion_in rows = option_and_then (conversion_of rows) (name_in rows (codes "
 
 -- the job that a conversion is
 abbrev pub recoding : Conversion → Job
-recoding c = Recode c.input c.output c.layout
+recoding c = writing c.output c.layout (Recode c.input)
 
 -- the union of two archives, of which the first was taken for a conversion and the second has not the name of what is
 -- written
 abbrev pub union_with : Conversion → Text → Option Job
-union_with c second = if bytes_eq second c.output then None else Some (Union c.input second c.output c.layout)
+union_with c second = if bytes_eq second c.output then None
+    else Some (writing c.output c.layout (Union c.input second))
 
 abbrev pub union_of : List Row → Conversion → Option Job
 union_of rows c = option_and_then (union_with c) (name_in rows (codes "second"))
@@ -111,12 +118,12 @@ abbrev pub union_in : List Row → Option Job
 union_in rows = option_and_then (union_of rows) (conversion_in rows)
 
 abbrev pub transposing : Conversion → Job
-transposing c = Transpose c.input c.output c.layout
+transposing c = writing c.output c.layout (Transpose c.input)
 
 -- the quotient of an archive by a map, with as many classes as the option gives
 abbrev pub quotient_by : List Row → Conversion → Text → Option Job
 quotient_by rows c map =
-    option_and_then (λ classes. Some (Quotient c.input map c.output classes c.layout))
+    option_and_then (λ classes. Some (writing c.output c.layout (Quotient c.input map classes)))
     (required_in rows (codes "classes") MOST_PAGES)
 
 -- the quotient of an archive by a map that is none of the files that are written
@@ -170,22 +177,20 @@ job_from found =
 abbrev pub job_of : List Text → Option Job
 job_of words = option_and_then job_from (parsed words)
 
--- the layout is within its limits, even for a graph without pages, and the archive that is written has no file of the
--- other
-abbrev pub IsConversion : Text → Text → Layout → Type 0
-IsConversion input output layout = IsWithinLimits (params_of layout 0 0) × ShareNoFile input output
+-- the numbers of what an archive is made of are within their limits, and none of it is a file of the archive
+abbrev pub IsProperOrigin : Text → Origin → Type 0
+IsProperOrigin output (Build arcs nodes) = (nodes ≤ MOST_PAGES) × IsNoFileOf output arcs
+IsProperOrigin output (Import text) = IsNoFileOf output text
+IsProperOrigin output (Quotient input map classes) = (classes ≤ MOST_PAGES) × ShareNoFile input output
+    × IsNoFileOf output map
+IsProperOrigin output (Recode input) = ShareNoFile input output
+IsProperOrigin output (Union first second) = ShareNoFile first output × ShareNoFile second output
+IsProperOrigin output (Transpose input) = ShareNoFile input output
 
 -- the numbers and the codes of a job are within their limits, and no job reads a file that it writes
 abbrev pub IsWithin : Job → Type 0
 IsWithin (Rank job) = (job.rounds ≤ MOST_ROUNDS) × (job.damping ≤ MOST_DAMPING) × (job.top ≤ MOST_PAGES)
     × KeepsInputs job.base job.weights job.certificate
-IsWithin (Build arcs base nodes layout) = (nodes ≤ MOST_PAGES) × IsWithinLimits (params_of layout nodes 0)
-    × IsNoFileOf base arcs
-IsWithin (Import text base layout) = IsWithinLimits (params_of layout 0 0) × IsNoFileOf base text
-IsWithin (Quotient input map output classes layout) = (classes ≤ MOST_PAGES) × IsConversion input output layout
-    × IsNoFileOf output map
-IsWithin (Recode input output layout) = IsConversion input output layout
-IsWithin (Union first second output layout) = IsConversion first output layout × ShareNoFile second output
-IsWithin (Transpose input output layout) = IsConversion input output layout
+IsWithin (Write job) = IsWithinLimits (params_of job.layout 0 0) × IsProperOrigin job.output job.origin
 IsWithin (Bulk seed pages) = pages ≤ MOST_GENERATED
 IsWithin _ = ⊤

@@ -12,7 +12,7 @@ use crate::defaults::{DEFAULT_DAMPING, DEFAULT_ROUNDS, DEFAULT_TOP};
 use crate::files::{is_file_of, overwrites};
 use crate::options::layout_at;
 use crate::values::{name_at, number_at, numbers_at, optional_name_at, required_at, unlimited_at};
-use crate::{Job, JobError, Name, RankJob, VerifyJob, Words};
+use crate::{Job, JobError, Name, Origin, RankJob, VerifyJob, Words, WriteJob};
 use clap::ArgMatches;
 use clap::error::ErrorKind;
 use std::alloc::{AllocError, Global};
@@ -75,13 +75,15 @@ fn quotient_in(alloc: Global, found: &ArgMatches<'_>) -> Result<Job, JobError>
     };
     let map = Name::new(alloc, map)?;
     let conversion = copied(alloc, pair)?;
-    Ok(Job::Quotient {
-        input: conversion.input,
-        map,
+    Ok(Job::Write(WriteJob {
         output: conversion.output,
-        classes,
         layout: conversion.layout,
-    })
+        origin: Origin::Quotient {
+            input: conversion.input,
+            map,
+            classes,
+        },
+    }))
 }
 
 fn recode_in(alloc: Global, found: &ArgMatches<'_>) -> Result<Job, JobError>
@@ -91,11 +93,13 @@ fn recode_in(alloc: Global, found: &ArgMatches<'_>) -> Result<Job, JobError>
         return Err(JobError::Usage);
     };
     let conversion = copied(alloc, pair)?;
-    Ok(Job::Recode {
-        input: conversion.input,
+    Ok(Job::Write(WriteJob {
         output: conversion.output,
         layout: conversion.layout,
-    })
+        origin: Origin::Recode {
+            input: conversion.input,
+        },
+    }))
 }
 
 // The union of two archives, unless the second has the name of what is written.
@@ -113,12 +117,14 @@ fn union_in(alloc: Global, found: &ArgMatches<'_>) -> Result<Job, JobError>
     }
     let second = Name::new(alloc, second)?;
     let conversion = copied(alloc, pair)?;
-    Ok(Job::Union {
-        first: conversion.input,
-        second,
+    Ok(Job::Write(WriteJob {
         output: conversion.output,
         layout: conversion.layout,
-    })
+        origin: Origin::Union {
+            first: conversion.input,
+            second,
+        },
+    }))
 }
 
 fn transpose_in(alloc: Global, found: &ArgMatches<'_>) -> Result<Job, JobError>
@@ -128,11 +134,13 @@ fn transpose_in(alloc: Global, found: &ArgMatches<'_>) -> Result<Job, JobError>
         return Err(JobError::Usage);
     };
     let conversion = copied(alloc, pair)?;
-    Ok(Job::Transpose {
-        input: conversion.input,
+    Ok(Job::Write(WriteJob {
         output: conversion.output,
         layout: conversion.layout,
-    })
+        origin: Origin::Transpose {
+            input: conversion.input,
+        },
+    }))
 }
 
 // What an archive of a generated graph comes to, with the seed and the pages that the words give.
@@ -319,13 +327,12 @@ fn build_on(alloc: Global, found: &ArgMatches<'_>, base: &str) -> Result<Job, Jo
     let Some(layout) = layout_at(found) else {
         return Err(JobError::Usage);
     };
-    let (arcs, base) = two_names(alloc, arcs, base)?;
-    Ok(Job::Build {
-        arcs,
-        base,
-        nodes,
+    let (arcs, output) = two_names(alloc, arcs, base)?;
+    Ok(Job::Write(WriteJob {
+        output,
         layout,
-    })
+        origin: Origin::Build { arcs, nodes },
+    }))
 }
 
 // The building of an archive from an ASCIIGraph text that is none of its files, with the layout that the options give.
@@ -341,6 +348,10 @@ fn import_on(alloc: Global, found: &ArgMatches<'_>, base: &str) -> Result<Job, J
     let Some(layout) = layout_at(found) else {
         return Err(JobError::Usage);
     };
-    let (text, base) = two_names(alloc, text, base)?;
-    Ok(Job::Import { text, base, layout })
+    let (text, output) = two_names(alloc, text, base)?;
+    Ok(Job::Write(WriteJob {
+        output,
+        layout,
+        origin: Origin::Import { text },
+    }))
 }

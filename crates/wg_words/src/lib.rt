@@ -2,9 +2,10 @@
 //!
 //! [`Words`] holds the words after the program's name. [`job`] reads them with `clap`, by the one table of commands and
 //! options in `forms`, and answers the [`Job`]: an enum with a variant for each command, which owns the names and
-//! numbers that the words give. There is no job if `clap` refuses the words, a request for help being such a
-//! refusal, or if a value is out of its range. The definition of the job, `job_of`, is over the matches that `clap`
-//! defines for these words.
+//! numbers that the words give. The commands that write an archive are one variant: beside the name and the layout of
+//! the archive, [`Origin`] says where its graph comes from. There is no job if `clap` refuses the words, a request for
+//! help being such a refusal, or if a value is out of its range. The definition of the job, `job_of`, is over the
+//! matches that `clap` defines for these words.
 //!
 //! The words of a command, and the job that they ask for:
 //!
@@ -35,7 +36,8 @@
 //! list of such numbers, of which each below 2^64 will do: which pages there are is known only when the archive has
 //! been read.
 //!
-//! A command more is a variant of `Job`, an entry of the table with its twin in the definitions, and an arm of `asked`.
+//! A command more is a variant of `Job` or `Origin`, an entry of the table, and an arm of `asked` with its twin in the
+//! definitions.
 //!
 //! Choices:
 //!
@@ -62,7 +64,7 @@ mod words;
 
 pub use asked::job;
 pub use defaults::DEFAULT_DAMPING;
-pub use jobs::{Job, JobError, RankJob, VerifyJob};
+pub use jobs::{Job, JobError, Origin, RankJob, VerifyJob, WriteJob};
 pub use layout::default_layout;
 pub use name::Name;
 pub use words::Words;

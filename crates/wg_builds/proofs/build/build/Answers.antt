@@ -1,5 +1,6 @@
 use Rattle.std.proofs.Common.{refl}
-use Rattle.wg_words.specs.declared.jobs.Job.TheVariants.{Build}
+use Rattle.wg_words.specs.Jobs.{writing}
+use Rattle.wg_words.specs.declared.jobs.Origin.TheVariants.{Build}
 use Rattle.wg_outcomes.proofs.BuildLemmas.{written}
 use Rattle.wg_readings.proofs.JobSteps.{does_exit}
 use Rattle.wg_builds.proofs.ListedJobs.{list_unread}
@@ -15,7 +16,7 @@ returns g c =
     let l = c.args.layout.now in
     let h = c.in_ok-params.ensures.makes in
     record {
-      does = written (Build c.args.arcs.now c.args.base.now c.args.nodes l) _ _ _ _ _ _ l h.graph c.args.base.now c.build_archive.result refl refl
+      does = written (writing c.args.base.now l (Build c.args.arcs.now c.args.nodes)) _ _ _ _ _ _ l h.graph c.args.base.now c.build_archive.result refl refl
           (λ t r. h.loads.steps t r _) h.loads.same h.loads.later (c.build_archive.ensures.builds l h.graph h.params h.is);
       later = c.build_archive.ensures.later;
     }

@@ -1,5 +1,6 @@
 use Rattle.std.proofs.Common.{refl}
-use Rattle.wg_words.specs.declared.jobs.Job.TheVariants.{Import}
+use Rattle.wg_words.specs.Jobs.{writing}
+use Rattle.wg_words.specs.declared.jobs.Origin.TheVariants.{Import}
 use Rattle.wg_outcomes.proofs.BuildLemmas.{written}
 use Rattle.wg_readings.proofs.JobSteps.{does_exit}
 use Rattle.wg_builds.proofs.ImportJobs.{text_unread}
@@ -14,7 +15,7 @@ returns g c =
     let l = c.args.layout.now in
     let h = c.in_ok-params.ensures.makes in
     record {
-      does = written (Import c.args.text.now c.args.base.now l) _ _ _ _ _ _ l h.graph c.args.base.now c.build_archive.result refl refl
+      does = written (writing c.args.base.now l (Import c.args.text.now)) _ _ _ _ _ _ l h.graph c.args.base.now c.build_archive.result refl refl
           (λ t r. h.loads.steps t r _) h.loads.same h.loads.later (c.build_archive.ensures.builds l h.graph h.params h.is);
       later = c.build_archive.ensures.later;
     }

@@ -17,7 +17,6 @@ pages-preserved c =
     let e = c.in_ok-encoder.ensures in
     let f = c.in_ok-encoder.encoder in
     let s = c.pages.lines in
-    let list = c.read_page.new.list in
     let left : s.line ≤ s.nodes = search rules in
     let k = i.pace in
     record {
@@ -35,7 +34,7 @@ pages-preserved c =
       };
       goes = λ done h.
           let x = i.goes done h in (
-            x.0 ++ list ∷ [],
+            x.0 ++ c.read_page.new.list ∷ [],
             subst (λ (l : List ℕ). HasEncoded f (x.0 ++ l ∷ [])) c.as_slice.ensures (e.encoded x.0 x.1),
             λ all later up. r.read all later x.0 (x.2 all later up),
           );

@@ -28,8 +28,7 @@ returns-in-Ok g c =
           c.in-Ok.list _ _ (λ bits places b q. r.answer bits places (rw (a.depot, a.graph) b) (rw (a.depot, a.offsets) q)));
       opens = λ t file is held places on.
           let b : HasBits g.D.Depot.told (g.D.Depot.files c.args.depot.now) c.args.graph.now (bits_of file) = (t, (file, is, held, refl)) in
-          let q : HasPlaces g.D.Depot.told (g.D.Depot.files c.args.depot.now) c.args.offsets.now places = (t, on) in
-          r.answer (bits_of file) places (rw (a.depot, a.graph) b) (rw (a.depot, a.offsets) q);
+          r.answer (bits_of file) places (rw (a.depot, a.graph) b) (rw (a.depot, a.offsets) ((t, on)));
     }
 
 pub returns-in-Err : goal.returns-in-Err

@@ -1,5 +1,6 @@
 use Rattle.std.proofs.Common.{arith}
 use Rattle.wg_outside.proofs.PutsLemmas.{rose_on}
+use Rattle.wg_outcomes.proofs.Statuses.{print_refused}
 use Rattle.wg_readings.proofs.UnderWay.{begins, goes_further}
 use Rattle.wg_queries.proofs.PrintedJobs.{prints_all, prints_exit, prints_less, prints_none, prints_read}
 use Rattle.wg_queries.proofs.PrintedLines.{head_less, head_printed, listed_grow, piece_less, piece_printed}
@@ -14,11 +15,12 @@ returns-in_err-reader g c = record {
 pub returns-in_err-print_head : goal.returns-in_err-print_head
 returns-in_err-print_head g c =
     let n = c.in_err-print_head.ensures in
+    let stop = print_refused _ _ _ _ n.refusals in
     record {
       prints = prints_exit _ _ _ _ _ _ _ _ _ c.from_residual-in_err-print_head.ensures.1
           (prints_less _ _ _ _ _ _ _ _ _ c.in_ok-reader.ensures.fresh.limits (listed_grow c.args.listing c.args.params.now.nodes) _ _ 0 c.in_ok-reader.reader _
           (begins _ _ _ _ _ _ _ c.in_ok-reader.ensures.fresh (λ o. head_less c.args.listing c.args.params.now.nodes _ _ _ c.new-lines.ensures (n.prints o)))
-          (omega arith) _ _ n.refusals.only n.refusals.failed);
+          (omega arith) _ _ stop.only stop.failed);
       later = n.later;
     }
 
@@ -50,13 +52,14 @@ pub returns-in_err-print_record : goal.returns-in_err-print_record
 returns-in_err-print_record g c =
     let r = c.in_ok-next_record.ensures in
     let n = c.in_err-print_record.ensures in
+    let stop = print_refused _ _ _ _ n.refusals in
     let on = (g.met.O.Sink.onward _ _ c.loop-page.invariant.later).0 in
     record {
       prints = prints_exit _ _ _ _ _ _ _ _ _ c.from_residual-in_err-print_record.ensures.1
           (prints_less _ _ _ _ _ _ _ _ _ c.nodes-page-end.ensures.limits (listed_grow c.args.listing c.args.params.now.nodes) _ _ _ _ _
           (goes_further _ _ _ _ _ _ _ _ _ _ _ _ _ c.loop-page.invariant.way _ r.advances r.open r.page r.in_step
           (λ whole w count list end h o. piece_less c.args.listing c.args.params.now.nodes _ _ _ _ _ _ _ w whole count list end (h o) (n.prints o)))
-          (omega (arith, c.loop-page-test.true, c.nodes-page-end.ensures.value)) _ _ n.refusals.only (λ is. rose_on _ _ _ _ on (n.refusals.failed is) (omega arith)));
+          (omega (arith, c.loop-page-test.true, c.nodes-page-end.ensures.value)) _ _ stop.only (λ is. rose_on _ _ _ _ on (stop.failed is) (omega arith)));
       later = g.met.O.Sink.goes_on _ _ _ c.loop-page.invariant.later n.later;
     }
 

@@ -11,8 +11,7 @@ returns-clause-puts g c = λ o r.
     let b = c.args.bounds in
     let s = c.of-first.result in
     let pages = ap length c.lower.ensures.value in
-    let few = c.lower.ensures.proper.few in
-    let count : c.min.result ≡ min c.args.top (length b.low) = omega (arith, c.min.ensures, pages, few) in
+    let count : c.min.result ≡ min c.args.job.now.top (length b.low) = omega (arith, c.min.ensures, pages) in
     let first = c.of-first.ensures in
-    let text = first_text b s c.min.result first.low first.high first.pages r c.args.top count in
+    let text = first_text b s c.min.result first.low first.high first.pages r c.args.job.now.top count in
     subst (λ (t : List ℕ). Puts t (g.O.Sink.taken c.args.out.now) (g.O.Sink.taken c.print_ranking.new.out) c.print_ranking.result) text (c.print_ranking.ensures.puts o)

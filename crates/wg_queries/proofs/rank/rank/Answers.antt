@@ -3,7 +3,7 @@ use Rattle.wg_outside.proofs.FilesLemmas.{none_falls-trans}
 use Rattle.wg_readings.proofs.LoadLemmas.{graph_loaded, graph_unloaded}
 use Rattle.wg_outcomes.specs.declared.status.Status.TheVariants.{Memory}
 use Rattle.wg_outcomes.specs.Answers.{HasOutput}
-use Rattle.wg_outcomes.specs.Ranked.{bounds_for, ranking_text}
+use Rattle.wg_outcomes.specs.Ranked.{bounds_for, text_for}
 use Rattle.wg_readings.proofs.JobSteps.{does_exit}
 use Rattle.wg_queries.proofs.RankJobs.{certifies, last_is, no_room, no_weights, of_graph, only_prints}
 use Rattle.wg_readings.proofs.GraphJobs.{no_graph, no_params}
@@ -122,7 +122,7 @@ returns-in-None-clause-anywhere g c =
           some_ranking graph job c.in_ok-given.given c.in_ok-given.ensures.alike c.bounds_by_rounds-bounds.result _ _ r c.requires.rounds c.requires.damping c.nodes.ensures.proper
           c.in_ok-lists.ensures.few
           (rw c.nodes.ensures.count at c.in_ok-given.ensures.weights) is
-          (all_put (ranking_text r c.bounds_by_rounds-bounds.result job.top)
+          (all_put (text_for r job c.bounds_by_rounds-bounds.result)
           (g.O.Sink.taken c.args.out.now) (g.O.Sink.taken c.print_ranks.new.out) c.print_ranks.result o.refusals.only (o.puts t r) done);
     }
 
@@ -142,7 +142,7 @@ returns-clause-anywhere g c =
           some_ranking graph job c.in_ok-given.given c.in_ok-given.ensures.alike c.bounds_by_rounds-bounds.result _ _ r c.requires.rounds c.requires.damping c.nodes.ensures.proper
           c.in_ok-lists.ensures.few
           (rw c.nodes.ensures.count at c.in_ok-given.ensures.weights) is
-          (subst (HasOutput (ranking_text r c.bounds_by_rounds-bounds.result job.top) (g.O.Sink.taken c.args.out.now) (g.O.Sink.taken c.certify.new.out)) done (c.certify.ensures.does.output t r));
+          (subst (HasOutput (text_for r job c.bounds_by_rounds-bounds.result) (g.O.Sink.taken c.args.out.now) (g.O.Sink.taken c.certify.new.out)) done (c.certify.ensures.does.output t r));
     }
 
 pub bounds_by_rounds-bounds-requires-clause-pulled : goal.bounds_by_rounds-bounds-requires-clause-pulled

@@ -7,7 +7,8 @@ use Rattle.wg_graph.specs.Ascending.{Below}
 use Rattle.wg_graph.specs.Digraph.{Digraph}
 use Rattle.wg_shape.specs.Quotient.{quotient_of}
 use Rattle.wg_words.specs.declared.jobs.Job.{Job}
-use Rattle.wg_words.specs.declared.jobs.Job.TheVariants.{Quotient}
+use Rattle.wg_words.specs.Jobs.{writing}
+use Rattle.wg_words.specs.declared.jobs.Origin.TheVariants.{Quotient}
 use Rattle.wg_params.specs.declared.layout.Layout.{Layout}
 use Rattle.wg_outcomes.specs.Judged.{Judged, map_then}
 use Rattle.wg_readings.specs.Loading.{IsBadMap, LoadsGraph, LoadsMap, LoadsParams}
@@ -31,13 +32,13 @@ behind_map classes layout g list r h = builds layout (quotient_of g list classes
 abbrev behind_graph : ℕ → Layout → Parameters → Digraph → Readings → (Input → Option (List ℕ)) → Judged
 behind_graph classes layout p g r h = map_then g.nodes classes (h Map) (λ list. behind_map classes layout g list r h)
 
-of_graph : (input map output : List ℕ) (classes : ℕ) (layout : Layout) → graphs.IsOfGraph (Quotient input map output classes layout) input (behind_graph classes layout)
+of_graph : (input map output : List ℕ) (classes : ℕ) (layout : Layout) → graphs.IsOfGraph (writing output layout (Quotient input map classes)) input (behind_graph classes layout)
 of_graph input map output classes layout = record { text_named = refl; graph_named = refl; judges = λ r h. refl }
 
 module _ (input map output : List ℕ) (classes : ℕ) (layout : Layout) (td to : Bool) (before : Outside) (p : Parameters) (files : Files) (counts : List ℕ → Counts) (l : LoadsParams input td before.files files before.counts counts (Ok p))
     (files1 : Files) (counts1 : List ℕ → Counts) (graph : Digraph) (g : LoadsGraph input p td files files1 counts counts1 (Ok graph)) where
   abbrev job : Job
-  job = Quotient input map output classes layout
+  job = writing output layout (Quotient input map classes)
 
   come : ComesTo job p td before files1 counts1 (Graph ∷ Properties ∷ []) (behind_graph classes layout p graph)
   come = graphs.has_graph job input (behind_graph classes layout) (of_graph input map output classes layout) td to before p files counts l files1 counts1 graph g
@@ -88,7 +89,7 @@ returns-in_err-made g c =
     let p = c.in_ok-params.params in
     let graph = c.in_ok-lists.lists.graph in
     does_exit _ _ _ _ _ _ _ _ g.met.O.Sink.stays c.from_residual-in_err-made.ensures.1
-    (ends_without (Quotient c.args.input.now c.args.map.now c.args.output.now c.args.classes c.args.layout.now) c.args.input.now _ _ _ p _ _ _ _
+    (ends_without (writing c.args.output.now c.args.layout.now (Quotient c.args.input.now c.args.map.now c.args.classes)) c.args.input.now _ _ _ p _ _ _ _
     (come_to_map c.args.input.now c.args.map.now c.args.output.now c.args.classes c.args.layout.now _ g.O.Sink.told _ p _ _ c.in_ok-params.ensures
     _ _ graph (graph_loaded c.args.input.now p _ _ _ _ _ c.in_ok-bytes.bytes _ c.as_slice.ensures c.in_ok-bytes.ensures (Ok graph) c.in_ok-lists.ensures.goes tt c.in_ok-lists.ensures.nodes)
     _ _ c.in_ok-classes_of.classes_of (rw c.nodes.ensures.count at c.in_ok-classes_of.ensures))
@@ -101,7 +102,7 @@ returns g c =
     let list = c.in_ok-classes_of.classes_of in
     let made = rw c.as_slice-2.ensures at c.in_ok-made.ensures.made in
     record {
-      does = writes (Quotient c.args.input.now c.args.map.now c.args.output.now c.args.classes c.args.layout.now) c.args.input.now _ _ _ p _ _ _ _
+      does = writes (writing c.args.output.now c.args.layout.now (Quotient c.args.input.now c.args.map.now c.args.classes)) c.args.input.now _ _ _ p _ _ _ _
           (come_to_map c.args.input.now c.args.map.now c.args.output.now c.args.classes c.args.layout.now _ g.O.Sink.told _ p _ _ c.in_ok-params.ensures
           _ _ graph (graph_loaded c.args.input.now p _ _ _ _ _ c.in_ok-bytes.bytes _ c.as_slice.ensures c.in_ok-bytes.ensures (Ok graph) c.in_ok-lists.ensures.goes tt c.in_ok-lists.ensures.nodes)
           _ _ list (rw c.nodes.ensures.count at c.in_ok-classes_of.ensures))

@@ -6,4 +6,4 @@ pub returns-clause-given : goal.returns-clause-given
 returns-clause-given c = rw c.defaults.ensures refl
 
 pub returns-clause-within : goal.returns-clause-within
-returns-clause-within c = rw c.defaults.ensures (layout_in_within [] _ 0 (omega arith) refl)
+returns-clause-within c = rw c.defaults.ensures (layout_in_within [] _ refl)
