@@ -58,24 +58,6 @@ fn write_page<S: Sink>(
     lines.byte(sink, b'\n')
 }
 
-// Prints the line of a page whose successors are all still to come.
-fn print_page<O: Sink>(
-    lines: &mut Lines,
-    out: &mut O,
-    page: u64,
-    successors: &mut Successors<'_>,
-) -> Result<(), Ending>
-    ensures prints { IsTrue O.told → Prints (successors_line page successors.old.list) (O.taken out.old)
-        (O.taken out.new) lines.old lines.new result }
-    ensures later { O.later out.old out.new }
-    ensures refusals { PrintRefusals ⟦<O as Sink>⟧ out.old out.new result }
-{
-    match write_page(lines, out, page, successors) {
-        Ok(()) => Ok(()),
-        Err(error) => Err(output_ending(error)),
-    }
-}
-
 // The successors of a list.
 fn write_listed<S: Sink>(lines: &mut Lines, sink: &mut S, list: &[u64]) -> Result<(), WriteError>
     ensures prints { IsTrue S.told → Prints (joined (map spaced list.now)) (S.taken sink.old)
@@ -89,8 +71,8 @@ fn write_listed<S: Sink>(lines: &mut Lines, sink: &mut S, list: &[u64]) -> Resul
     Ok(())
 }
 
-// The line of a page whose successors are listed.
-fn write_list<S: Sink>(
+/// The line of a page whose successors are listed.
+pub fn write_list<S: Sink>(
     lines: &mut Lines,
     sink: &mut S,
     page: u64,
@@ -106,21 +88,21 @@ fn write_list<S: Sink>(
     lines.byte(sink, b'\n')
 }
 
-/// Prints the line of a page whose successors are listed.
-pub fn print_listed<O: Sink>(
+// The line of a page that was read.
+fn write_read<S: Sink>(
     lines: &mut Lines,
-    out: &mut O,
+    sink: &mut S,
     page: u64,
-    list: &[u64],
-) -> Result<(), Ending>
-    ensures prints { IsTrue O.told → Prints (successors_line page list.now) (O.taken out.old)
-        (O.taken out.new) lines.old lines.new result }
-    ensures later { O.later out.old out.new }
-    ensures refusals { PrintRefusals ⟦<O as Sink>⟧ out.old out.new result }
+    read: Page<'_>,
+) -> Result<(), WriteError>
+    ensures prints { IsTrue S.told → Prints (successors_line page (list_in read.entry)) (S.taken sink.old)
+        (S.taken sink.new) lines.old lines.new result }
+    ensures later { S.later sink.old sink.new }
+    ensures refusals { SinkRefusals ⟦<S as Sink>⟧ sink.old sink.new result }
 {
-    match write_list(lines, out, page, list) {
-        Ok(()) => Ok(()),
-        Err(error) => Err(output_ending(error)),
+    match read {
+        Page::Opened(mut successors) => write_page(lines, sink, page, &mut successors),
+        Page::Listed(list) => write_list(lines, sink, page, list.as_slice()),
     }
 }
 
@@ -136,8 +118,8 @@ pub fn print_read<O: Sink>(
     ensures later { O.later out.old out.new }
     ensures refusals { PrintRefusals ⟦<O as Sink>⟧ out.old out.new result }
 {
-    match read {
-        Page::Opened(mut successors) => print_page(lines, out, page, &mut successors),
-        Page::Listed(list) => print_listed(lines, out, page, list.as_slice()),
+    match write_read(lines, out, page, read) {
+        Ok(()) => Ok(()),
+        Err(error) => Err(output_ending(error)),
     }
 }

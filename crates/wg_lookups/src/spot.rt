@@ -13,7 +13,7 @@ ghost use Rattle.wg_lookups.specs.Spotting.{SpotsByChainIn};
 use crate::chains::successors_of_page;
 use crate::found_file::find_file;
 use crate::sampled::sample_offsets;
-use crate::shown::print_listed;
+use crate::shown::write_list;
 use std::alloc::Global;
 use std::marker::Brand;
 use std::sync::ledger::{Blank, Ledger};
@@ -89,6 +89,6 @@ fn print_line<O: Sink>(out: &mut O, page: u64, list: &[u64]) -> Result<(), Endin
     ensures later { O.later out.old out.new }
 {
     let mut lines = Lines::new();
-    print_listed(&mut lines, out, page, list)?;
+    write_list(&mut lines, out, page, list)?;
     print_rest(&mut lines, out)
 }
