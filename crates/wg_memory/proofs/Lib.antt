@@ -1,2 +1,3 @@
 pub mod ListsLemmas
 pub mod ManyLemmas
+pub mod RangeLemmas
