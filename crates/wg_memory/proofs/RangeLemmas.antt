@@ -1,12 +1,14 @@
 -- Pages by their chains of references.
-use Rattle.std.proofs.Common.{◌≡◌, ◌∙◌, ℕ, zero, suc, ◌+◌, ◌-◌, ◌<◌, ◌≤◌, Bool, inl, inr, List, [], ◌∷◌, ◌++◌, length, replicate, Result, Ok, Err, refl, sym, ap, subst, arith, length-append}
+use Rattle.std.proofs.Common.{◌≡◌, ◌∙◌, ℕ, zero, suc, ◌+◌, ◌-◌, ◌<◌, ◌≤◌, Bool, inl, inr, List, [], ◌∷◌, ◌++◌, length, replicate, Result, Ok, Err, take, refl, sym, ap, subst, arith, length-append}
 use Rattle.std.specs.Prelude.{get_or, IfOk}
 use Rattle.std.specs.List.{range_with_len}
 use Rattle.std.proofs.lemmas.Bool.{cases_lt}
-use Rattle.std.proofs.lemmas.List.{get_or-replicate, get_or_append_left, get_or_push}
+use Rattle.std.proofs.lemmas.List.{get_or-replicate, get_or_append_left, get_or_push, length-take-le}
 use Rattle.std.proofs.lemmas.List.FromFn.{get_or-range_with_len}
 use Rattle.wg_params.specs.Parameters.{Parameters, IsWithinLimits}
 use Rattle.wg_graph.specs.Ascending.{Ascends, Below}
+use Rattle.wg_graph.specs.Pieces.{pieces, EndsAt}
+use Rattle.wg_graph.proofs.Ends.{length-pieces}
 use Rattle.wg_grammar.specs.declared.fault.ArchiveFault.{ArchiveFault}
 use Rattle.wg_grammar.specs.declared.fault.ArchiveFault.TheVariants as faults
 use Rattle.wg_grammar.specs.declared.fault.Fault.{Fault}
@@ -23,7 +25,8 @@ use Rattle.wg_decoder.specs.Remembered.{known_of}
 use Rattle.wg_stream.proofs.SpotOne.{same_reference}
 use Rattle.wg_random.proofs.SpotMoves.{Apart, apart_of}
 use Rattle.wg_memory.specs.Answers.{HasList}
-use Rattle.wg_memory.specs.Many.{AreListsOf}
+use Rattle.wg_memory.specs.declared.many.Stop.{Stop}
+use Rattle.wg_memory.specs.Many.{AreListsOf, AreSpots, StopsAt, end_before}
 use Rattle.wg_memory.specs.Range.{AreKnown}
 
 deep_one : (n r : ℕ) (k : Known) → 0 < r → r ≤ n → depth_of (replicate n k) r ≡ suc k.depth
@@ -160,3 +163,21 @@ module _ (p : Parameters) (bits : List Bool) (places : List ℕ) where
       → AreListsOf p bits places (range_with_len first n) lists
   lists_known first n lists depths h few = λ i lt.
       subst (λ (x : ℕ). HasList p bits places x (get_or lists i [])) (sym (get_or-range_with_len first n i 0 (omega (arith, lt, few)))) (page_of (get_or lists i []) (get_or depths i 0), h.reads i lt, refl)
+
+  pub spots_known : (first n : ℕ) (ends out depths : List ℕ) (done used : ℕ) → end_before ends done ≡ used → used ≤ length out → done ≤ length ends → done ≤ n
+      → EndsAt 0 (take done ends) (length (take used out)) → AreKnown p bits places first (pieces 0 (take done ends) (take used out)) depths
+      → AreSpots p bits places (range_with_len first n) done ends out
+  spots_known first n ends out depths done used last few long within whole h = record {
+    used = used;
+    last = last;
+    few = few;
+    long = long;
+    whole = whole;
+    lists = lists_known first n _ depths h (omega (arith, length-pieces 0 (take done ends) (take used out), length-take-le done ends long, within));
+  }
+
+  pub stops_same : (page page1 used used1 room room1 : ℕ) (why : Stop) → page ≡ page1 → used ≡ used1 → room ≡ room1 → StopsAt p bits places page used room why
+      → StopsAt p bits places page1 used1 room1 why
+  stops_same page page1 used used1 room room1 why same_page same_used same_room h =
+      subst (λ (n : ℕ). StopsAt p bits places n used1 room1 why) same_page
+      (subst (λ (n : ℕ). StopsAt p bits places page n room1 why) same_used (subst (λ (n : ℕ). StopsAt p bits places page used n why) same_room h))

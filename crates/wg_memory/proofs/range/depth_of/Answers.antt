@@ -1,9 +1,9 @@
-use Rattle.std.proofs.Common.{◌∙◌, ◌-◌, ◌<◌, ap, arith, Err}
+use Rattle.std.proofs.Common.{◌<◌, ℕ, Ok, Err, arith, refl, subst}
 use Rattle.std.proofs.lemmas.Result.{err_from_is_err_and}
 use Rattle.wg_bits.specs.Bits.{bits_of}
 use Rattle.wg_grammar.proofs.ErrorLemmas.{fault_weaker}
+use Rattle.wg_decoder.specs.Chains.{HeadReads}
 use Rattle.wg_memory.proofs.RangeLemmas.{head_fails, spot_down, spot_end, spot_over}
-use Rattle.std.proofs.Common.{refl}
 use Rattle.wg_memory.proofs.range.depth_of.Goals as goal
 
 pub returns-in_err-back-clause-fault : goal.returns-in_err-back-clause-fault
@@ -15,7 +15,8 @@ returns-in_err-back-clause-fault c =
 pub returns-then-back-eq0-clause-depth : goal.returns-then-back-eq0-clause-depth
 returns-then-back-eq0-clause-depth c = λ k reads.
     let j = c.down.invariant.deep k reads in
-    omega (arith, j.2, spot_end c.args.params.now c.nodes.ensures.limits (bits_of c.args.graph.now) c.args.places.now c.down.here j.0 c.in_ok-back.ensures.reads j.1)
+    let head = subst (λ (n : ℕ). HeadReads c.args.params.now (bits_of c.args.graph.now) c.args.places.now c.down.here (Ok n)) c.if-back-eq0.true c.in_ok-back.ensures.reads in
+    omega (arith, j.2, spot_end c.args.params.now c.nodes.ensures.limits (bits_of c.args.graph.now) c.args.places.now c.down.here j.0 head j.1)
 
 pub down-preserved : goal.down-preserved
 down-preserved c =

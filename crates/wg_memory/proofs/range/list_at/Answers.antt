@@ -1,4 +1,4 @@
-use Rattle.std.proofs.Common.{◌∙◌, ◌-◌, ap, arith, drop, get_or, length, sym, take}
+use Rattle.std.proofs.Common.{rules, ◌≤◌, arith, length, sym}
 use Rattle.wg_graph.proofs.Ends.{end_le, piece_at, start_le}
 use Rattle.wg_memory.proofs.range.list_at.Goals as goal
 
@@ -6,7 +6,10 @@ pub slice_bounds-result-count : goal.slice_bounds-result-count
 slice_bounds-result-count c = omega (arith, c.start_at-start.ensures, start_le 0 _ c.args.ends.now c.args.index c.requires.whole c.requires.index)
 
 pub offset_bounds-lists-start : goal.offset_bounds-lists-start
-offset_bounds-lists-start c = ?
+offset_bounds-lists-start c =
+    let start = start_le 0 _ c.args.ends.now c.args.index c.requires.whole c.requires.index in
+    let within : c.start_at-start.result ≤ length c.args.lists.now = omega (arith, c.start_at-start.ensures, start, end_le 0 _ c.args.ends.now c.args.index c.requires.whole c.requires.index) in
+    search rules
 
 pub slice_bounds-result-start : goal.slice_bounds-result-start
 slice_bounds-result-start c =
