@@ -18,7 +18,7 @@ use Rattle.wg_grammar.specs.Errors.{OnFault}
 use Rattle.wg_grammar.proofs.ErrorLemmas.{faults_weaker}
 use Rattle.wg_grammar.proofs.OneGraph.{lists_ascend}
 use Rattle.wg_decoder.specs.Apart.{page_over}
-use Rattle.wg_decoder.specs.Chains.{start_of, HeadReads, RecordReads, RefersTo, EndReads, OverReads, ChainReads, SpotReads, IsHeadFault}
+use Rattle.wg_decoder.specs.Chains.{start_of, HeadReads, RecordReads, EndReads, OverReads, ChainReads, SpotReads, IsHeadFault}
 use Rattle.wg_decoder.specs.Handed.{page_of}
 use Rattle.wg_decoder.specs.declared.decoded.Decoded.{Decoded}
 use Rattle.wg_decoder.specs.Remembered.{known_of}

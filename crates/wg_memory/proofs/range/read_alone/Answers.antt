@@ -1,9 +1,7 @@
-use Rattle.std.proofs.Common.{◌≡◌, ◌-◌, ℕ, List, Ok, Err, ap, refl, subst, sym}
+use Rattle.std.proofs.Common.{◌-◌, Err, refl}
 use Rattle.std.proofs.lemmas.Result.{err_from_is_err_and}
 use Rattle.wg_bits.specs.Bits.{bits_of}
 use Rattle.wg_grammar.proofs.ErrorLemmas.{fault_weaker}
-use Rattle.wg_decoder.specs.Chains.{SpotReads}
-use Rattle.wg_decoder.specs.Handed.{page_of}
 use Rattle.wg_memory.proofs.RangeLemmas.{known_by, spot_over}
 use Rattle.wg_memory.proofs.range.read_alone.Goals as goal
 

@@ -1,4 +1,4 @@
-use Rattle.std.proofs.Common.{◌-◌, Ok, arith}
+use Rattle.std.proofs.Common.{◌-◌, arith}
 use Rattle.wg_bits.specs.Bits.{bits_of}
 use Rattle.wg_decoder.specs.Handed.{page_of}
 use Rattle.wg_memory.proofs.RangeLemmas.{error_over, list_over, spot_fine}

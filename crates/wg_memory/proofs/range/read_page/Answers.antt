@@ -1,10 +1,10 @@
-use Rattle.std.proofs.Common.{◌≡◌, ◌∙◌, ◌+◌, ◌-◌, ◌<◌, ℕ, List, [], Ok, Err, Result, ap, arith, get_or, length, refl, subst, sym}
+use Rattle.std.proofs.Common.{◌≡◌, ◌+◌, ◌-◌, ◌<◌, ℕ, List, Ok, arith, get_or, length, subst, sym}
 use Rattle.std.proofs.lemmas.Result.{err_from_is_err_and}
 use Rattle.wg_bits.specs.Bits.{bits_of}
 use Rattle.wg_graph.specs.Pieces.{pieces}
 use Rattle.wg_graph.proofs.Ends.{length-pieces}
 use Rattle.wg_grammar.proofs.ErrorLemmas.{fault_weaker}
-use Rattle.wg_decoder.specs.Chains.{HeadReads, SpotReads}
+use Rattle.wg_decoder.specs.Chains.{SpotReads}
 use Rattle.wg_decoder.specs.Handed.{page_of}
 use Rattle.wg_memory.proofs.RangeLemmas.{error_alone, head_fails, list_alone}
 use Rattle.wg_memory.proofs.range.read_page.Goals as goal
