@@ -1,5 +1,6 @@
 -- Pages by their chains of references.
-use Rattle.std.proofs.Common.{◌≡◌, ◌∙◌, ℕ, zero, suc, ◌+◌, ◌-◌, ◌<◌, ◌≤◌, Bool, inl, inr, List, [], ◌∷◌, ◌++◌, length, replicate, Result, Ok, Err, take, refl, sym, ap, subst, arith, length-append}
+use Rattle.std.proofs.Common.{refl, sym, ap, subst, arith, length-append}
+use Rattle.std.proofs.Common.{◌≡◌, ◌∙◌, ℕ, zero, suc, ◌+◌, ◌-◌, ◌<◌, ◌≤◌, Bool, inl, inr, List, [], ◌∷◌, ◌++◌, length, replicate, Result, Ok, Err, take}
 use Rattle.std.specs.Prelude.{get_or, IfOk}
 use Rattle.std.specs.List.{range_with_len}
 use Rattle.std.proofs.lemmas.Bool.{cases_lt}
@@ -71,7 +72,8 @@ module _ (p : Parameters) (bits : List Bool) (offsets : List ℕ) where
       → SpotReads p bits offsets y (Ok (page_of named depth))
   known_by y list named depth lent has deep =
       let k : Known = has.0 in
-      subst (λ (l : List ℕ). SpotReads p bits offsets y (Ok (page_of l depth))) (sym (lent ∙ has.2)) (subst (λ (n : ℕ). SpotReads p bits offsets y (Ok (page_of k.list n))) (deep k has.1) has.1)
+      subst (λ (l : List ℕ). SpotReads p bits offsets y (Ok (page_of l depth))) (sym (lent ∙ has.2))
+      (subst (λ (n : ℕ). SpotReads p bits offsets y (Ok (page_of k.list n))) (deep k has.1) has.1)
 
   -- ---- what is known of a page with a list
 
@@ -162,7 +164,8 @@ module _ (p : Parameters) (bits : List Bool) (places : List ℕ) where
   pub lists_known : (first n : ℕ) (lists : List (List ℕ)) (depths : List ℕ) → AreKnown p bits places first lists depths → length lists ≤ n
       → AreListsOf p bits places (range_with_len first n) lists
   lists_known first n lists depths h few = λ i lt.
-      subst (λ (x : ℕ). HasList p bits places x (get_or lists i [])) (sym (get_or-range_with_len first n i 0 (omega (arith, lt, few)))) (page_of (get_or lists i []) (get_or depths i 0), h.reads i lt, refl)
+      subst (λ (x : ℕ). HasList p bits places x (get_or lists i [])) (sym (get_or-range_with_len first n i 0 (omega (arith, lt, few))))
+      (page_of (get_or lists i []) (get_or depths i 0), h.reads i lt, refl)
 
   pub spots_known : (first n : ℕ) (ends out depths : List ℕ) (done used : ℕ) → end_before ends done ≡ used → used ≤ length out → done ≤ length ends → done ≤ n
       → EndsAt 0 (take done ends) (length (take used out)) → AreKnown p bits places first (pieces 0 (take done ends) (take used out)) depths
