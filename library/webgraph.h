@@ -98,10 +98,12 @@ uint32_t wg_successors_of(const wg_params *params, const uint8_t *graph, size_t 
                           size_t count, const uint64_t *pages, size_t how_many, uint64_t *ends, size_t ends_room,
                           uint64_t *out, size_t room, uint64_t *done, wg_fault *fault);
 
-/* The successors of the pages from `first` to before first + pages, in order, as wg_successors_of gives them; but what
- * a list copies from, where it is of the range, is not read again: each page costs its own record. *done lists stand in
- * the arrays; if the status is not 0, page first + *done is why, and after 17 a call from there on, with an empty
- * array, goes on. Status 0, 2, 3, 9, 10, 17, 18. */
+/* The successors of the pages first, first + 1 and so on, `pages` of them, one list after the other, as
+ * wg_successors_of has them: that of page first + i ends before out[ends[i]]. At each status but 2, where nothing is
+ * told, *done lists stand in the arrays; if the status is not 0, page first + *done is why. After 17 a call from that
+ * page on, with an empty array, goes on. Each record of the range is decoded once; a page before the range is read as
+ * by wg_successors, each time that a record of the range refers to it. Memory for 8 bytes a page of the range and a few
+ * lists. Several threads may read ranges of one archive at once. Status 0, 2, 3, 9, 10, 17, 18. */
 uint32_t wg_read_range(const wg_params *params, const uint8_t *graph, size_t length, const uint64_t *places,
                        size_t count, uint64_t first, uint64_t *ends, size_t pages, uint64_t *out, size_t room,
                        uint64_t *done, wg_fault *fault);

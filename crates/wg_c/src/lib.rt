@@ -13,6 +13,7 @@ mod offsets;
 mod outdegrees;
 mod params;
 mod properties;
+mod range;
 mod ranking;
 mod spot;
 mod status;

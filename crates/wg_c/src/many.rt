@@ -15,8 +15,8 @@ use std::alloc::Global;
 use wg_grammar::ReadError;
 use wg_memory::{Stop, successors_of};
 
-// The status of a page that was not read, and its fault.
-fn status_of(why: Stop, fault: &mut WgFault) -> u32
+/// The status of a page that was not read, and its fault.
+pub(crate) fn status_of(why: Stop, fault: &mut WgFault) -> u32
     ensures only { OneOf (3 ∷ 9 ∷ 10 ∷ 17 ∷ 18 ∷ []) result }
     ensures ends { (p : Parameters) (bits : List Bool) (places : List ℕ) (page used room : ℕ)
         → StopsAt p bits places page used room why → Ends p bits places page used room fault.new result }

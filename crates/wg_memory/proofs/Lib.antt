@@ -1,3 +1,4 @@
 pub mod ListsLemmas
 pub mod ManyLemmas
 pub mod WritingLemmas
+pub mod RangeLemmas

@@ -1,5 +1,6 @@
 pub mod Answers
 pub mod Many
+pub mod Range
 pub mod Checking
 pub mod Ranking
 pub mod Verifying
