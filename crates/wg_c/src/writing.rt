@@ -25,7 +25,7 @@ pub extern "C" fn wg_write_offsets(
         written.new }
     ensures no_room { result ≡ 17
         → 8 * length file.old < length (offsets_bits (params_in params.now).offsets places.now) }
-    ensures falls { result ≡ 18 → (page : ℕ) × (page < params.now.nodes) × Falls places.now page }
+    ensures falls { result ≡ 18 → (page : ℕ) × Falls places.now page }
     ensures misused { result ≡ 2 → IsMisused params.now file.old ⊎ (length places.now ≢ params.now.nodes + 1)
         ⊎ (get_or places.now 0 0 ≢ 0) ⊎ ((i : ℕ) × (MOST_PLACE < get_or places.now i 0)) }
     ensures only { OneOf (0 ∷ 2 ∷ 17 ∷ 18 ∷ []) result }

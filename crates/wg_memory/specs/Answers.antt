@@ -9,7 +9,7 @@ use Rattle.wg_decoder.specs.Chains.{start_of, SpotReads}
 
 -- the record of a page would end before it begins
 abbrev pub Falls : List ℕ → ℕ → Type 0
-Falls places page = start_of places (page + 1) < start_of places page
+Falls places page = (page + 1 < length places) × (start_of places (page + 1) < start_of places page)
 
 pub still_falls : (here there : List ℕ) (page : ℕ) → there ≡ here → Falls there page → Falls here page
 still_falls here there page same h = subst (λ (l : List ℕ). Falls l page) same h

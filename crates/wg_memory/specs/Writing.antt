@@ -1,5 +1,5 @@
 -- Bits that are put into an array, and the offsets file of places in an array.
-use Rattle.std.specs.Prelude.{◌≡◌, ℕ, ◌+◌, ◌-◌, ◌*◌, ◌<◌, ◌≤◌, Bool, false, List, [], ◌∷◌, ◌++◌, length, take, drop, replicate}
+use Rattle.std.specs.Prelude.{◌≡◌, ℕ, ◌-◌, ◌*◌, ◌<◌, ◌≤◌, Bool, false, List, [], ◌∷◌, ◌++◌, length, take, drop, replicate}
 use Rattle.std.specs.Prelude.{get_or, Option, Some, None, Ok}
 use Rattle.wg_params.specs.declared.code.Code.{Code}
 use Rattle.wg_bits.specs.Bits.{bits_of, low_bits}
@@ -65,5 +65,5 @@ pub record HoldsOffsets (c : Code) (n : ℕ) (places old new : List ℕ) (count 
 abbrev pub IsUnwritten : Code → List ℕ → ℕ → Unwritten → Type 0
 IsUnwritten c places room First = 0 < get_or places 0 0
 IsUnwritten c places room TooFar = (i : ℕ) × (MOST_PLACE < get_or places i 0)
-IsUnwritten c places room (Falls page) = (page + 1 < length places) × answers.Falls places page
+IsUnwritten c places room (Falls page) = answers.Falls places page
 IsUnwritten c places room NoRoom = 8 * room < length (offsets_bits c places)

@@ -78,7 +78,6 @@ module _ (names : Input → Option (List ℕ)) (outputs : Output → Option (Lis
 
   -- ---- an input is, which has this name
   module _ (i : Input) (name : List ℕ) (named : names i ≡ Some name) where
-
     pub failed_caused : Increased (old name).read_faults (new name).read_faults → HasCause names outputs old new f f' (ReadFault i)
     failed_caused rose = grind arith
 
