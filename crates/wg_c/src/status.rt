@@ -1,4 +1,4 @@
-//! The statuses of the calls: those of the program, and one of its own.
+//! The statuses of the calls: those of the program, and two of their own.
 
 /// Done.
 pub const DONE: u32 = 0;
@@ -24,8 +24,8 @@ pub const BAD_WEIGHTS: u32 = 12;
 /// The bounds do not hold.
 pub const BAD_BOUNDS: u32 = 16;
 
-/// There is not enough room for the successors.
+/// There is not enough room for what is written.
 pub const NO_ROOM: u32 = 17;
 
-/// The offsets fall at a page of the chain.
+/// A place is below the one before it.
 pub const BAD_PLACES: u32 = 18;
