@@ -5,46 +5,34 @@ use Rattle.wg_outside.specs.Outside.{Files, Counts}
 use Rattle.wg_params.specs.Parameters.{Parameters, IsWithinLimits, params_of}
 use Rattle.wg_params.specs.declared.limits.TheConstants.{MOST_ARCS, MOST_PAGES}
 use Rattle.wg_properties.specs.declared.fault.PropFault.{PropFault}
-use Rattle.wg_properties.proofs.Readback.{read_again}
-use Rattle.wg_properties.proofs.ShortTexts.{text_short}
+use Rattle.wg_properties.proofs.{Readback.read_again, ShortTexts.text_short}
 use Rattle.wg_graph.specs.Digraph.{Digraph, IsGraph, arc_count}
 use Rattle.wg_grammar.specs.Archive.{Accepted}
 use Rattle.wg_offsets.specs.Words.{places_of}
 use Rattle.wg_greedy.specs.Archive.{Archive, graph_bits, graph_file, offset_values, offsets_file}
 use Rattle.wg_encoder.specs.ArchiveInMemory.{Summarized, HoldsArchive}
 use Rattle.wg_greedy.specs.Laws.{IsAcceptedArchive}
-use Rattle.wg_greedy.proofs.Accepted.{greedy_accepted}
-use Rattle.wg_greedy.proofs.ProperRecord.{canonical_proper}
-use Rattle.wg_words.specs.Layouts.{default_layout}
+use Rattle.wg_greedy.proofs.{Accepted.greedy_accepted, ProperRecord.canonical_proper}
+use Rattle.wg_words.specs.{Layouts.default_layout, declared.jobs.Job.Job}
 use Rattle.wg_params.specs.declared.layout.Layout.{Layout}
 use Rattle.std.specs.Result.{OnOk}
 use Rattle.wg_words.proofs.LayoutLemmas.{layout_for_any}
-use Rattle.wg_outcomes.specs.Answers.{IsHindrance}
-use Rattle.wg_outcomes.specs.Causes.{AreFaultless}
+use Rattle.wg_outcomes.specs.{Answers.IsHindrance, Causes.AreFaultless, Names.file_of, Names.held_by, Names.no_outputs}
 use Rattle.wg_outcomes.specs.Judged.{Judged, accepted, output_of, with_graph, with_offsets, offsets_then}
 use Rattle.wg_readings.specs.Loading.{IsPropertiesFile, JudgesFiles, LoadsGraph, LoadsParams, digraph_then, params_then}
-use Rattle.wg_outcomes.specs.Names.{file_of, held_by, no_outputs}
-use Rattle.wg_readings.specs.Pairing.{files_then}
-use Rattle.wg_readings.specs.Passes.{graph_then}
-use Rattle.wg_outcomes.specs.Readings.{Readings}
-use Rattle.wg_outcomes.specs.declared.ending.Ending.{Ending}
+use Rattle.wg_readings.specs.{Pairing.files_then, Passes.graph_then}
+use Rattle.wg_outcomes.specs.{Readings.Readings, declared.ending.Ending.Ending, Promised.ArePromised}
 use Rattle.wg_outcomes.specs.declared.status.Input.TheVariants as input
-use Rattle.wg_outcomes.specs.Promised.{ArePromised}
-use Rattle.wg_outcomes.specs.declared.status.Status.{Status}
-use Rattle.wg_outcomes.specs.declared.status.Status.TheVariants.{Memory}
-use Rattle.wg_readings.proofs.ReadingsLaws.{the_readings}
+use Rattle.wg_outcomes.specs.{declared.status.Status.Status, declared.status.Status.TheVariants.Memory}
+use Rattle.wg_readings.proofs.{ReadingsLaws.the_readings, JobSteps.ends_refused, JobSteps.want_refuses}
 use Rattle.wg_readings.proofs.ReadingsLemmas.{all_agree, goes_on, goes_on_from}
-use Rattle.wg_outcomes.specs.Bulk.{IsBuilt, bulk_params}
+use Rattle.wg_outcomes.specs.{Bulk.IsBuilt, Bulk.bulk_params, Written.AreWhole, Written.archive_in, JobFiles.input_name}
 use Rattle.wg_rank.specs.Rounds.{bounds_after}
-use Rattle.wg_outcomes.specs.Written.{AreWhole, archive_in}
 use Rattle.wg_outcomes.proofs.FileLemmas.{held_goes, last_bit}
 use Rattle.wg_outside.proofs.FilesLemmas.{none_falls-refl}
 use Rattle.wg_writing.specs.Writing.{archive_of}
-use Rattle.wg_words.specs.declared.jobs.Job.{Job}
-use Rattle.wg_outcomes.specs.JobFiles.{input_name}
 use Rattle.wg_outcomes.specs.Performs.{OutCounts, Performs, outside}
 use Rattle.wg_outcomes.proofs.PerformsLemmas.{by_memory, hindered}
-use Rattle.wg_readings.proofs.JobSteps.{ends_refused, want_refuses}
 
 -- what goes on alike, whatever comes next, goes on with what gives the same text
 same_text : {B : Type 0} (step : (B → Judged) → Judged) (b d : B) (text : B → List ℕ) → ((next : B → Judged) → step next ≡ next b) → ((next : B → Judged) → step next ≡ next d) → text b ≡ text d

@@ -6,29 +6,19 @@ use Rattle.wg_outside.specs.Outside.{Files, Counts, NonDecreasing}
 use Rattle.wg_outside.specs.declared.limits.TheConstants.{MOST_BYTES}
 use Rattle.wg_num.specs.Lines.{lines_of}
 use Rattle.wg_graph.specs.Digraph.{Digraph}
-use Rattle.wg_ascii.specs.Growing.{IsFirst}
-use Rattle.wg_ascii.specs.Reading.{StandsFor}
-use Rattle.wg_ascii.specs.declared.fault.AsciiError.{AsciiError}
+use Rattle.wg_ascii.specs.{Growing.IsFirst, Reading.StandsFor, declared.fault.AsciiError.AsciiError}
 use Rattle.wg_ascii.specs.declared.fault.AsciiError.TheVariants as error
-use Rattle.wg_words.specs.Jobs.{writing}
-use Rattle.wg_words.specs.declared.jobs.Origin.TheVariants.{Import}
+use Rattle.wg_words.specs.{Jobs.writing, declared.jobs.Origin.TheVariants.Import}
 use Rattle.wg_params.specs.declared.layout.Layout.{Layout}
-use Rattle.wg_outcomes.specs.Judged.{with_text}
+use Rattle.wg_outcomes.specs.{Judged.with_text, Names.held_by, Names.text_named, Promised.ArePromised, Commands.builds}
 use Rattle.wg_readings.specs.Loading.{IsBadText, LoadsText}
 use Rattle.wg_readings.proofs.ReadingsLemmas.{text_goes_on, text_refused}
 use Rattle.wg_readings.proofs.JobSteps.{IsRefusal, ends_at}
-use Rattle.wg_outcomes.specs.Names.{held_by, text_named}
-use Rattle.wg_outcomes.specs.Promised.{ArePromised}
-use Rattle.wg_outcomes.specs.declared.ending.Ending.{Ending}
-use Rattle.wg_outcomes.specs.declared.status.Input.TheVariants.{Text}
-use Rattle.wg_outcomes.specs.declared.status.Status.{Status}
+use Rattle.wg_outcomes.specs.{declared.ending.Ending.Ending, declared.status.Input.TheVariants.Text}
+use Rattle.wg_outcomes.specs.{declared.status.Status.Status, JobFiles.input_name, Performs.Outside, Performs.Performs}
 use Rattle.wg_outcomes.specs.declared.status.Status.TheVariants.{Done, Memory}
-use Rattle.wg_outcomes.proofs.Statuses.{IsOwn, own_caused}
-use Rattle.wg_outcomes.specs.Commands.{builds}
-use Rattle.wg_outcomes.specs.JobFiles.{input_name}
-use Rattle.wg_outcomes.specs.Performs.{Outside, Performs}
+use Rattle.wg_outcomes.proofs.{Statuses.IsOwn, Statuses.own_caused, FileLemmas.held_goes}
 use Rattle.wg_builds.specs.Imported.{status_of_text}
-use Rattle.wg_outcomes.proofs.FileLemmas.{held_goes}
 
 -- an ASCIIGraph text that was not read ends the job
 pub text_unread : (text base : List ℕ) (l : Layout) (td to : Bool) (before after : Outside) (e : Ending) → after.taken ≡ before.taken → LoadsText text td before.files after.files before.counts after.counts (Err e)

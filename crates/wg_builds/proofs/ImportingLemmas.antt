@@ -2,8 +2,7 @@
 use Rattle.std.proofs.Common.{◌≡◌, ℕ, ◌+◌, ◌<◌, ◌≤◌, List, [], ◌++◌, length, Bool, true, false, Result, Ok, sym, ap, subst, ◌∙◌, arith}
 use Rattle.wg_num.specs.Lines.{lines_of}
 use Rattle.wg_num.proofs.Cuts.{no_lines}
-use Rattle.wg_ascii.specs.Growing.{IsUpTo}
-use Rattle.wg_ascii.specs.Growing.{PageLinesRead}
+use Rattle.wg_ascii.specs.{Growing.IsUpTo, Growing.PageLinesRead}
 use Rattle.wg_encoder.specs.ArchiveInMemory.{EncodedSoFar}
 use Rattle.wg_outcomes.specs.declared.ending.Ending.{Ending}
 use Rattle.wg_builds.specs.Imported.{KeepsPace}

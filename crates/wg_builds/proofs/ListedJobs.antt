@@ -6,38 +6,23 @@ use Rattle.wg_outside.specs.Outside.{Files, Counts, NonDecreasing}
 use Rattle.wg_outside.specs.declared.limits.TheConstants.{MOST_BYTES}
 use Rattle.wg_num.specs.Lines.{lines_of}
 use Rattle.wg_params.specs.declared.layout.Layout.{Layout}
-use Rattle.wg_graph.specs.Digraph.{Digraph, IsGraph}
-use Rattle.wg_graph.specs.Growing.{padded}
+use Rattle.wg_graph.specs.{Digraph.Digraph, Digraph.IsGraph, Growing.padded}
 use Rattle.wg_graph.proofs.Arcs.{length-arcs_from}
-use Rattle.wg_arcs.specs.Growing.{SoFar}
-use Rattle.wg_arcs.specs.Listing.{AreListed, arcs_on}
-use Rattle.wg_arcs.specs.Growing.{ArcLinesRead}
-use Rattle.wg_arcs.specs.declared.fault.ArcsKind.{ArcsKind}
-use Rattle.wg_arcs.specs.declared.fault.ArcsError.{ArcsError}
+use Rattle.wg_arcs.specs.{Growing.SoFar, Listing.AreListed, Listing.arcs_on, Growing.ArcLinesRead}
+use Rattle.wg_arcs.specs.{declared.fault.ArcsKind.ArcsKind, declared.fault.ArcsError.ArcsError}
 use Rattle.wg_arcs.specs.declared.fault.ArcsError.TheVariants as error
-use Rattle.wg_arcs.proofs.ListedLemmas.{all_pages, count_known}
-use Rattle.wg_arcs.proofs.Order.{Arc}
-use Rattle.wg_arcs.proofs.Soundness.{all_read}
+use Rattle.wg_arcs.proofs.{ListedLemmas.all_pages, ListedLemmas.count_known, Order.Arc, Soundness.all_read}
 use Rattle.wg_encoder.specs.ArchiveInMemory.{EncodedSoFar, HasEncoded}
-use Rattle.wg_words.specs.Jobs.{writing}
-use Rattle.wg_words.specs.declared.jobs.Origin.TheVariants.{Build}
-use Rattle.wg_outcomes.specs.Commands.{builds}
-use Rattle.wg_outcomes.specs.JobFiles.{input_name}
-use Rattle.wg_outcomes.specs.Judged.{with_list}
-use Rattle.wg_outcomes.specs.Names.{held_by, list_named}
-use Rattle.wg_outcomes.specs.Promised.{ArePromised}
-use Rattle.wg_outcomes.specs.Performs.{Outside, Performs}
-use Rattle.wg_outcomes.specs.declared.ending.Ending.{Ending}
-use Rattle.wg_outcomes.specs.declared.status.Input.TheVariants.{ArcList}
-use Rattle.wg_outcomes.specs.declared.status.Status.{Status}
+use Rattle.wg_words.specs.{Jobs.writing, declared.jobs.Origin.TheVariants.Build}
+use Rattle.wg_outcomes.specs.{Commands.builds, JobFiles.input_name, Judged.with_list, Names.held_by, Names.list_named}
+use Rattle.wg_outcomes.specs.{Promised.ArePromised, Performs.Outside, Performs.Performs, declared.ending.Ending.Ending}
+use Rattle.wg_outcomes.specs.{declared.status.Input.TheVariants.ArcList, declared.status.Status.Status}
 use Rattle.wg_outcomes.specs.declared.status.Status.TheVariants.{BadArcs, Done, Memory}
-use Rattle.wg_outcomes.proofs.Statuses.{IsOwn, own_caused}
+use Rattle.wg_outcomes.proofs.{Statuses.IsOwn, Statuses.own_caused, FileLemmas.held_goes}
 use Rattle.wg_readings.specs.Loading.{Loads, LoadsList}
 use Rattle.wg_readings.proofs.JobSteps.{IsRefusal, ends_at}
 use Rattle.wg_readings.proofs.ReadingsLemmas.{list_goes_on, list_refused}
-use Rattle.wg_builds.specs.Encoded.{Encodes}
-use Rattle.wg_builds.specs.Listed.{IsFault, status_of_list}
-use Rattle.wg_outcomes.proofs.FileLemmas.{held_goes}
+use Rattle.wg_builds.specs.{Encoded.Encodes, Listed.IsFault, Listed.status_of_list}
 
 -- the lines that come next are lent now
 pub lent_now : (n m : ℕ) (all next later : List (List ℕ)) (text lent : List ℕ) (count : ℕ) (arcs : List Arc) → m ≡ n → next ≡ lines_of lent ++ later → text ≡ lent → SoFar n all next count arcs → SoFar m all (lines_of text ++ later) count arcs

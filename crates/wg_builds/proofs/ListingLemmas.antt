@@ -3,16 +3,11 @@ use Rattle.std.proofs.Common.{◌≡◌, ℕ, ◌+◌, ◌-◌, ◌<◌, ◌≤�
 use Rattle.std.specs.Prelude.{IfSome, option_to_list}
 use Rattle.std.proofs.lemmas.List.{length_push, replicate_more, take_all, take_at}
 use Rattle.std.proofs.lemmas.List.Sums.{sum_by-append, sum_by-cons}
-use Rattle.wg_params.specs.declared.limits.TheConstants.{MOST_ARCS}
-use Rattle.wg_graph.specs.Growing.{padded}
-use Rattle.wg_graph.specs.Ascending.{Below}
-use Rattle.wg_graph.proofs.Arcs.{length-arcs_from}
-use Rattle.wg_graph.proofs.Prefixes.{length-padded}
-use Rattle.wg_params.specs.Parameters.{Parameters}
-use Rattle.wg_arcs.specs.Listing.{AreListed, arcs_on}
-use Rattle.wg_arcs.specs.Growing.{ArcLinesRead}
-use Rattle.wg_arcs.proofs.ListedLemmas.{next_page}
-use Rattle.wg_arcs.proofs.Order.{Arc}
+use Rattle.wg_params.specs.{declared.limits.TheConstants.MOST_ARCS, Parameters.Parameters}
+use Rattle.wg_graph.specs.{Growing.padded, Ascending.Below}
+use Rattle.wg_graph.proofs.{Arcs.length-arcs_from, Prefixes.length-padded}
+use Rattle.wg_arcs.specs.{Listing.AreListed, Listing.arcs_on, Growing.ArcLinesRead}
+use Rattle.wg_arcs.proofs.{ListedLemmas.next_page, Order.Arc}
 use Rattle.wg_encoder.specs.ArchiveInMemory.{EncodedSoFar, HasEncoded}
 use Rattle.wg_builds.specs.Listed.{IsUnderWay, MayTake, done_at, list_at}
 

@@ -1,8 +1,7 @@
 -- A text that is there while it is read line by line.
 use Rattle.std.proofs.Common.{◌≡◌, ℕ, ◌≤◌, List, length, Option, Some, ap, ◌∙◌, arith}
 use Rattle.std.specs.FinMap as map
-use Rattle.wg_outside.specs.Outside.{Files}
-use Rattle.wg_outside.specs.declared.limits.TheConstants.{MOST_BYTES}
+use Rattle.wg_outside.specs.{Outside.Files, declared.limits.TheConstants.MOST_BYTES}
 use Rattle.wg_lines.specs.Reading.{IsReadable}
 
 -- ---- a file that is there

@@ -1,8 +1,7 @@
 -- What a line names as promised, and why one is cut off.
 use Rattle.std.specs.Prelude.{IsErr}
 use Rattle.std.proofs.Common.{◌≡◌, ◌⊎◌, inl, inr, ℕ, Bool, true, false, Option, Some, None, Result, Ok, Err, refl, sym, ◌∙◌, ap}
-use Rattle.wg_outside.specs.Outside.{Files, Increased}
-use Rattle.wg_outside.specs.Refusals.{SinkRefusals}
+use Rattle.wg_outside.specs.{Outside.Files, Outside.Increased, Refusals.SinkRefusals}
 use Rattle.wg_outside.specs.declared.depot.WriteError.{WriteError}
 use Rattle.wg_outside.specs.declared.depot.WriteError.TheVariants as write
 use Rattle.wg_outside.specs.declared.sink.Sink as sink

@@ -2,20 +2,13 @@
 use Rattle.std.proofs.Common.{◌≡◌, ◌≤◌, ℕ, List, ◌++◌, Option, inl, inr, sym, ◌∙◌, ap}
 use Rattle.wg_params.specs.declared.limits.TheConstants.{MOST_DAMPING, MOST_ROUNDS}
 use Rattle.wg_graph.specs.Digraph.{Digraph}
-use Rattle.wg_words.specs.declared.jobs.Job.TheVariants.{Rank}
-use Rattle.wg_outcomes.specs.Answers.{Answers}
-use Rattle.wg_outcomes.specs.Commands.{judged, ranks}
+use Rattle.wg_words.specs.{declared.jobs.Job.TheVariants.Rank, declared.jobs.RankJob.RankJob}
+use Rattle.wg_outcomes.specs.{Answers.Answers, Commands.judged, Commands.ranks, Readings.Readings}
 use Rattle.wg_outcomes.specs.Judged.{Judged, output_of, status_of, weights_then}
-use Rattle.wg_words.specs.declared.jobs.RankJob.{RankJob}
-use Rattle.wg_outcomes.specs.Ranked.{PrintsProvenRanking, bounds_for}
-use Rattle.wg_outcomes.specs.Readings.{Readings}
-use Rattle.wg_outcomes.specs.declared.status.Input.{Input}
-use Rattle.wg_outcomes.specs.declared.status.Input.TheVariants.{Weights}
-use Rattle.wg_outcomes.specs.declared.status.Status.TheVariants.{Done}
-use Rattle.wg_laws.proofs.HeldLemmas.{graph_behind}
-use Rattle.wg_laws.proofs.RoundsLemmas.{text_ranked}
+use Rattle.wg_outcomes.specs.{Ranked.PrintsProvenRanking, Ranked.bounds_for, declared.status.Input.Input}
+use Rattle.wg_outcomes.specs.{declared.status.Input.TheVariants.Weights, declared.status.Status.TheVariants.Done}
+use Rattle.wg_laws.proofs.{HeldLemmas.graph_behind, RoundsLemmas.text_ranked, WeightsLemmas.weights_behind}
 use Rattle.wg_outcomes.proofs.RankLemmas.{proven}
-use Rattle.wg_laws.proofs.WeightsLemmas.{weights_behind}
 
 -- Done is the status of the validation itself
 pub when_done : (j : Judged) → Answers j Done → Done ≡ status_of j

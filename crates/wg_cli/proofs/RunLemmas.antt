@@ -3,13 +3,10 @@ use Rattle.std.specs.Bool.{IsTrue}
 use Rattle.std.proofs.Common.{◌≡◌, inr, Bool, true, false, Some, None, refl, subst}
 use Rattle.wg_outside.proofs.FilesLemmas.{none_falls-refl}
 use Rattle.wg_words.specs.declared.jobs.Job.{Job}
-use Rattle.wg_outcomes.specs.Answers.{IsHindrance}
-use Rattle.wg_outcomes.specs.JobFiles.{can_end}
-use Rattle.wg_outcomes.specs.Performs.{Outside, Performs}
+use Rattle.wg_outcomes.specs.{Answers.IsHindrance, JobFiles.can_end, Performs.Outside, Performs.Performs}
 use Rattle.wg_outcomes.specs.declared.status.Status.{Status}
 use Rattle.wg_outcomes.specs.declared.status.Status.TheVariants.{Done, Usage, Memory}
-use Rattle.wg_outcomes.proofs.PerformsLemmas.{stopped}
-use Rattle.wg_outcomes.proofs.Statuses.{IsRead, own_caused}
+use Rattle.wg_outcomes.proofs.{PerformsLemmas.stopped, Statuses.IsRead, Statuses.own_caused}
 
 -- a job that was not begun
 pub not_begun : (job : Job) (td to : Bool) (at : Outside) → Performs job td to at at Memory 0

@@ -1,12 +1,9 @@
 -- What runs if nothing outside is at fault reports no fault.
 use Rattle.std.proofs.Common.{◌≡◌, ◌≢◌, ◌⊎◌, inl, inr, ℕ, List, arith, refl, sym, ◌∙◌, subst, Option, Some, None}
-use Rattle.wg_outside.specs.Outside.{Counts, Increased}
-use Rattle.wg_outside.specs.declared.output.Output.{Output}
+use Rattle.wg_outside.specs.{Outside.Counts, Outside.Increased, declared.output.Output.Output}
 use Rattle.wg_words.specs.declared.jobs.Job.{Job}
-use Rattle.wg_outcomes.specs.Causes.{AreFaultless, HasCause}
-use Rattle.wg_outcomes.specs.JobFiles.{input_name, output_name}
-use Rattle.wg_outcomes.specs.declared.status.Input.{Input}
-use Rattle.wg_outcomes.specs.declared.status.Status.{Status}
+use Rattle.wg_outcomes.specs.{Causes.AreFaultless, Causes.HasCause, JobFiles.input_name, JobFiles.output_name}
+use Rattle.wg_outcomes.specs.{declared.status.Input.Input, declared.status.Status.Status}
 use Rattle.wg_outcomes.specs.declared.status.Status.TheVariants.{Usage, Memory, ReadFault, WriteFault}
 use Rattle.wg_outcomes.proofs.PerformsLemmas.{not_at, no_fault_in}
 use Rattle.wg_cli.specs.Lines.{Reports}

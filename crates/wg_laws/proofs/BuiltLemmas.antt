@@ -1,38 +1,30 @@
 -- An archive that was built, in a validation.
 use Rattle.std.proofs.Common.{◌≡◌, ℕ, ◌≤◌, List, length, nat_lt, refl, sym, ap, subst, ◌∙◌, arith, inl, inr, Option, Some, None, Result, Ok, Err}
-use Rattle.std.proofs.lemmas.Bool.{cases_Bool}
-use Rattle.std.proofs.lemmas.Option.{none-some, same_Some}
+use Rattle.std.proofs.{lemmas.Bool.cases_Bool, lemmas.Option.none-some, lemmas.Option.same_Some}
 use Rattle.wg_outside.specs.declared.limits.TheConstants.{MOST_BYTES}
 use Rattle.wg_bits.specs.Bits.{bits_of}
-use Rattle.wg_params.specs.Parameters.{Parameters, IsWithinLimits}
+use Rattle.wg_params.specs.{Parameters.Parameters, Parameters.IsWithinLimits, declared.limits.TheConstants.MOST_PAGES}
 use Rattle.wg_properties.specs.Text.{text_of}
-use Rattle.wg_properties.proofs.Readback.{read_again}
-use Rattle.wg_properties.proofs.ShortTexts.{text_short}
+use Rattle.wg_properties.proofs.{Readback.read_again, ShortTexts.text_short}
 use Rattle.wg_num.specs.Lines.{lines_of}
 use Rattle.wg_graph.specs.Digraph.{Digraph, arc_count}
-use Rattle.wg_offsets.specs.Places.{last_place}
-use Rattle.wg_offsets.specs.Words.{places_of}
+use Rattle.wg_offsets.specs.{Places.last_place, Words.places_of}
 use Rattle.wg_grammar.specs.Archive.{Accepted}
 use Rattle.wg_grammar.proofs.OneGraph.{graph_one}
 use Rattle.wg_greedy.specs.Archive.{Archive, graph_bits, graph_file, offset_values, offsets_file}
 use Rattle.wg_greedy.specs.Laws.{IsAcceptedArchive}
-use Rattle.wg_greedy.proofs.Accepted.{greedy_accepted}
-use Rattle.wg_greedy.proofs.ProperRecord.{canonical_proper}
-use Rattle.wg_arcs.specs.Reading.{AreArcs, IsListed, arcs_in}
-use Rattle.wg_arcs.specs.Text.{text_of_arcs, text_of_graph}
+use Rattle.wg_greedy.proofs.{Accepted.greedy_accepted, ProperRecord.canonical_proper}
+use Rattle.wg_arcs.specs.{Reading.AreArcs, Reading.IsListed, Reading.arcs_in, Text.text_of_arcs, Text.text_of_graph}
 use Rattle.wg_arcs.specs.declared.fault.ArcsKind.{ArcsKind}
-use Rattle.wg_arcs.proofs.FewArcs.{listed_few}
-use Rattle.wg_arcs.proofs.Texts.{text_is_of_arcs}
+use Rattle.wg_arcs.proofs.{FewArcs.listed_few, Texts.text_is_of_arcs}
 use Rattle.wg_ascii.specs.Text as plain
-use Rattle.wg_params.specs.declared.limits.TheConstants.{MOST_PAGES}
 use Rattle.wg_words.proofs.LayoutLemmas.{layout_for_any}
 use Rattle.wg_words.specs.declared.jobs.Job.TheVariants.{Check, Arcs}
 use Rattle.wg_laws.specs.Built.{holding, IsAcceptedAs, BuiltAreAccepted, BuildsAreAccepted}
 use Rattle.wg_outcomes.specs.Commands.{builds, judged, number_lines, ok_line, ranks, successors_lines, with_certificate}
 use Rattle.wg_outcomes.specs.Judged.{Judged, refused, accepted, built, certified, unless_bad_list, unless_bad_properties, weights_then, with_archive, with_digraph, with_file, with_graph, with_lengths, with_list, with_offsets, with_pages, with_parameters, with_places, with_records}
 use Rattle.wg_outcomes.specs.Ranked.{HoldGraph, bounds_for, certificate_text, text_for}
-use Rattle.wg_outcomes.specs.Readings.{Readings}
-use Rattle.wg_outcomes.specs.Written.{greedy_archive, params_for}
+use Rattle.wg_outcomes.specs.{Readings.Readings, Written.greedy_archive, Written.params_for}
 use Rattle.wg_outcomes.specs.declared.status.Input.{Input}
 use Rattle.wg_outcomes.specs.declared.status.Input.TheVariants as input
 use Rattle.wg_readings.proofs.ReadingsLemmas.{all_agree, goes_on, goes_on_from}

@@ -1,11 +1,9 @@
 -- What a certificate's text claims is within the limits, and of as many pages as are asked for.
 use Rattle.std.proofs.Common.{◌≡◌, ◌∙◌, ◌≤◌, ◌+◌, ℕ, zero, suc, List, [], ◌∷◌, length, drop, Option, Result, Ok, Err, sym, ap, arith}
-use Rattle.wg_num.specs.Lines.{lines_of}
-use Rattle.wg_num.specs.Units.{units_of}
+use Rattle.wg_num.specs.{Lines.lines_of, Units.units_of}
 use Rattle.wg_params.specs.declared.limits.TheConstants.{MOST_DAMPING}
-use Rattle.wg_rank.specs.Claims.{Claim}
+use Rattle.wg_rank.specs.{Claims.Claim, declared.fault.CertFault.CertFault}
 use Rattle.wg_rank.specs.CertificateText.{and_then, at_most, before, bounds_of, claim_of, claimed, damping_of, or_fault, pages_of}
-use Rattle.wg_rank.specs.declared.fault.CertFault.{CertFault}
 use Rattle.wg_rank.specs.declared.fault.CertFault.TheVariants as fault
 use Rattle.wg_rank.specs.declared.fault.CertKind.TheVariants as kind
 

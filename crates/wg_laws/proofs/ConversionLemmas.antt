@@ -3,22 +3,18 @@ use Rattle.std.proofs.Common.{◌≡◌, ℕ, ◌≤◌, List, refl, sym, ap, su
 use Rattle.wg_params.specs.declared.limits.TheConstants.{MOST_ARCS, MOST_PAGES}
 use Rattle.wg_params.specs.Parameters.{Parameters, IsWithinLimits, params_of}
 use Rattle.wg_graph.specs.Digraph.{Digraph, IsGraph, arc_count}
-use Rattle.wg_greedy.proofs.Accepted.{greedy_accepted}
-use Rattle.wg_greedy.proofs.ProperRecord.{canonical_proper}
+use Rattle.wg_greedy.proofs.{Accepted.greedy_accepted, ProperRecord.canonical_proper}
 use Rattle.wg_arcs.specs.Text.{text_of_graph}
 use Rattle.wg_transpose.specs.Transposed.{transposed}
-use Rattle.wg_transpose.proofs.Reversed.{are_reversed, gives_back, is_proper}
-use Rattle.wg_transpose.proofs.Totals.{as_many}
+use Rattle.wg_transpose.proofs.{Reversed.are_reversed, Reversed.gives_back, Reversed.is_proper, Totals.as_many}
 use Rattle.wg_words.specs.declared.jobs.Job.TheVariants.{Check}
 use Rattle.wg_params.specs.declared.layout.Layout.{Layout}
 use Rattle.wg_words.proofs.LayoutLemmas.{layout_for_any}
 use Rattle.wg_laws.specs.Built.{holding, ConversionsAreAccepted}
-use Rattle.wg_outcomes.specs.Commands.{builds, greedy_line, judged}
+use Rattle.wg_outcomes.specs.{Commands.builds, Commands.greedy_line, Commands.judged, Ranked.HoldGraph}
 use Rattle.wg_outcomes.specs.Judged.{Judged, accepted, built, status_of, with_digraph, with_records}
 use Rattle.wg_greedy.specs.Archive.{Archive}
-use Rattle.wg_outcomes.specs.Ranked.{HoldGraph}
-use Rattle.wg_outcomes.specs.Readings.{Readings}
-use Rattle.wg_outcomes.specs.Written.{greedy_archive, params_for}
+use Rattle.wg_outcomes.specs.{Readings.Readings, Written.greedy_archive, Written.params_for}
 use Rattle.wg_laws.proofs.BuiltLemmas.{built_accepted, holds_graph, lists_go_on, same_built}
 use Rattle.wg_laws.proofs.HeldLemmas.{graph_behind}
 

@@ -1,25 +1,20 @@
 -- The graph that the files of an archive stand for, from a validation that went on with it.
 use Rattle.std.proofs.Common.{◌≡◌, ◌≤◌, ℕ, List, Option, Some, None, Result, Ok, refl, sym, ◌∙◌, ap, subst, arith}
 use Rattle.wg_bits.specs.Bits.{bits_of}
-use Rattle.wg_params.specs.declared.key.Key.{Key}
+use Rattle.wg_params.specs.{declared.key.Key.Key, Parameters.Parameters, Parameters.IsWithinLimits}
 use Rattle.wg_params.specs.declared.key.Key.TheVariants as key
 use Rattle.wg_params.specs.declared.limits.TheConstants.{MOST_ARCS, MOST_INTERVAL, MOST_PAGES, MOST_WINDOW}
-use Rattle.wg_params.specs.Parameters.{Parameters, IsWithinLimits}
 use Rattle.wg_num.specs.Lines.{lines_of}
 use Rattle.wg_properties.specs.Judged.{and_then, judged as judged_values, judged_chain, judged_class, judged_endianness, judged_flags, judged_number, judged_version, judged_zeta, properties_of, unless_continued}
-use Rattle.wg_properties.specs.Pairs.{first_continued, pairs_of, value_of}
-use Rattle.wg_properties.specs.Words.{name_of}
+use Rattle.wg_properties.specs.{Pairs.first_continued, Pairs.pairs_of, Pairs.value_of, Words.name_of}
 use Rattle.wg_properties.specs.declared.fault.PropFault.{PropFault}
 use Rattle.wg_properties.proofs.Limits.{never_bad}
 use Rattle.wg_graph.specs.Digraph.{Digraph, IsGraph, arc_count}
-use Rattle.wg_grammar.specs.Archive.{Accepted, ReadsGraph}
-use Rattle.wg_grammar.specs.Laws.{accepted_graph}
+use Rattle.wg_grammar.specs.{Archive.Accepted, Archive.ReadsGraph, Laws.accepted_graph}
 use Rattle.wg_grammar.specs.declared.fault.ArchiveFault.{ArchiveFault}
 use Rattle.wg_grammar.proofs.ProperGraphs.{arcs_promised, graph_proper}
 use Rattle.wg_outcomes.specs.Judged.{Judged, status_of, unless_bad_graph, unless_bad_properties, with_digraph, with_file, with_parameters, with_records}
-use Rattle.wg_outcomes.specs.Ranked.{HoldGraph}
-use Rattle.wg_outcomes.specs.Readings.{Readings}
-use Rattle.wg_outcomes.specs.declared.status.Input.{Input}
+use Rattle.wg_outcomes.specs.{Ranked.HoldGraph, Readings.Readings, declared.status.Input.Input}
 use Rattle.wg_outcomes.specs.declared.status.Input.TheVariants as input
 use Rattle.wg_outcomes.specs.declared.status.Status.TheVariants.{Done}
 use Rattle.wg_readings.proofs.LimitsLemmas.{within_limits}

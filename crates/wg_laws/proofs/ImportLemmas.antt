@@ -3,29 +3,21 @@ use Rattle.std.proofs.Common.{◌≡◌, ℕ, ◌≤◌, List, length, Option, S
 use Rattle.std.proofs.lemmas.Option.{same_Some}
 use Rattle.wg_outside.specs.declared.limits.TheConstants.{MOST_BYTES}
 use Rattle.wg_num.specs.Lines.{lines_of}
-use Rattle.wg_params.specs.Parameters.{IsWithinLimits, params_of}
+use Rattle.wg_params.specs.{Parameters.IsWithinLimits, Parameters.params_of, declared.layout.Layout.Layout}
 use Rattle.wg_graph.specs.Digraph.{Digraph}
-use Rattle.wg_ascii.specs.Laws.{HaveSameWords}
-use Rattle.wg_ascii.specs.Reading.{IsDecided, StandsFor}
+use Rattle.wg_ascii.specs.{Laws.HaveSameWords, Reading.IsDecided, Reading.StandsFor, declared.fault.AsciiKind.AsciiKind}
 use Rattle.wg_ascii.specs.Text as plain
-use Rattle.wg_ascii.specs.declared.fault.AsciiKind.{AsciiKind}
 use Rattle.wg_ascii.proofs.ReadBack as texts
-use Rattle.wg_words.specs.Jobs.{writing}
-use Rattle.wg_words.specs.declared.jobs.Job.TheVariants.{Ascii}
+use Rattle.wg_words.specs.{Jobs.writing, declared.jobs.Job.TheVariants.Ascii}
 use Rattle.wg_words.specs.declared.jobs.Origin.TheVariants.{Import, Recode}
-use Rattle.wg_params.specs.declared.layout.Layout.{Layout}
 use Rattle.wg_outcomes.specs.Judged.{Judged, accepted, built, output_of, status_of, unless_bad_text, with_text}
 use Rattle.wg_greedy.specs.Archive.{Archive}
-use Rattle.wg_outcomes.specs.Readings.{Readings}
-use Rattle.wg_outcomes.specs.declared.status.Input.{Input}
-use Rattle.wg_outcomes.specs.declared.status.Input.TheVariants.{Text}
+use Rattle.wg_outcomes.specs.{Readings.Readings, declared.status.Input.Input, declared.status.Input.TheVariants.Text}
 use Rattle.wg_readings.proofs.ReadingsLemmas.{text_goes_on}
 use Rattle.wg_laws.specs.Built.{ImportsAreAccepted, IsAcceptedImport}
 use Rattle.wg_outcomes.specs.Commands.{builds, judged}
-use Rattle.wg_laws.proofs.BuiltLemmas.{file_behind}
+use Rattle.wg_laws.proofs.{BuiltLemmas.file_behind, ConversionLemmas.read_again, HeldLemmas.graph_behind}
 use Rattle.wg_outcomes.proofs.FileLemmas.{held_goes}
-use Rattle.wg_laws.proofs.ConversionLemmas.{read_again}
-use Rattle.wg_laws.proofs.HeldLemmas.{graph_behind}
 
 -- from what was imported back to its text
 

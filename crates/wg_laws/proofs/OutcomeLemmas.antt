@@ -10,23 +10,17 @@ use Rattle.wg_shape.specs.Quotient.{quotient_of}
 use Rattle.wg_transpose.specs.Transposed.{transposed}
 use Rattle.wg_greedy.specs.Archive.{graph_bits, referring_pages}
 use Rattle.wg_offsets.specs.Places.{pages_that_differ}
-use Rattle.wg_order.specs.Order.{Positions}
-use Rattle.wg_order.specs.Summary.{sure_pages}
+use Rattle.wg_order.specs.{Order.Positions, Summary.sure_pages}
 use Rattle.wg_rank.specs.Intervals.{Intervals}
 use Rattle.wg_vectors.specs.Generated.{generated}
-use Rattle.wg_words.specs.declared.jobs.Job.{Job}
+use Rattle.wg_words.specs.{declared.jobs.Job.Job, declared.jobs.Origin.Origin, declared.jobs.RankJob.RankJob}
 use Rattle.wg_words.specs.declared.jobs.Job.TheVariants.{Check, Arcs, Ascii, Offsets, Show, Spot, Rank, Verify, Write, Bulk}
-use Rattle.wg_words.specs.declared.jobs.Origin.{Origin}
 use Rattle.wg_words.specs.declared.jobs.Origin.TheVariants.{Build, Import, Quotient, Recode, Union, Transpose}
-use Rattle.wg_words.specs.declared.jobs.RankJob.{RankJob}
-use Rattle.wg_outcomes.specs.Bulk.{bulk_bounds, bulk_params, outcome_of, outcome_text}
+use Rattle.wg_outcomes.specs.{Bulk.bulk_bounds, Bulk.bulk_params, Bulk.outcome_of, Bulk.outcome_text, Ranked.bounds_for}
 use Rattle.wg_outcomes.specs.Commands.{builds, judged, ranks, with_origin}
 use Rattle.wg_outcomes.specs.Judged.{Judged, accepted, claim_then, map_then, offsets_then, unless_bad_list, unless_some_differ, weights_then, with_archive, with_digraph, with_file, with_graph, with_records, with_successors}
-use Rattle.wg_outcomes.specs.Ranked.{bounds_for}
-use Rattle.wg_outcomes.specs.Readings.{Readings, ReadingsAgree}
-use Rattle.wg_outcomes.specs.Second.{of_second, second_held}
-use Rattle.wg_outcomes.specs.Verified.{verified_line, with_gap}
-use Rattle.wg_outcomes.specs.declared.outcome.Outcome.{Outcome}
+use Rattle.wg_outcomes.specs.{Readings.Readings, Readings.ReadingsAgree, Second.of_second, Second.second_held}
+use Rattle.wg_outcomes.specs.{Verified.verified_line, Verified.with_gap, declared.outcome.Outcome.Outcome}
 use Rattle.wg_outcomes.specs.declared.status.Input.{Input}
 use Rattle.wg_outcomes.specs.declared.status.Input.TheVariants as input
 use Rattle.wg_laws.proofs.HeldLemmas.{read_within}

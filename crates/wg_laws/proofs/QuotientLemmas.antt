@@ -1,24 +1,16 @@
 -- What a quotient comes to, read again.
 use Rattle.std.proofs.Common.{◌≡◌, ℕ, ◌≤◌, List, Result, Ok, sym, ap, ◌∙◌, arith}
 use Rattle.wg_params.specs.declared.limits.TheConstants.{MOST_ARCS}
-use Rattle.wg_graph.specs.Ascending.{Below}
-use Rattle.wg_graph.specs.Digraph.{Digraph, arc_count}
-use Rattle.wg_arcs.specs.Numbers.{numbers_of}
-use Rattle.wg_arcs.specs.Text.{text_of_graph}
-use Rattle.wg_arcs.specs.declared.numbers_fault.NumbersFault.{NumbersFault}
+use Rattle.wg_graph.specs.{Ascending.Below, Digraph.Digraph, Digraph.arc_count}
+use Rattle.wg_arcs.specs.{Numbers.numbers_of, Text.text_of_graph, declared.numbers_fault.NumbersFault.NumbersFault}
 use Rattle.wg_shape.specs.Quotient.{quotient_of}
-use Rattle.wg_shape.proofs.Fewer.{fewer}
-use Rattle.wg_shape.proofs.Quotients.{is_quotient}
+use Rattle.wg_shape.proofs.{Fewer.fewer, Quotients.is_quotient}
 use Rattle.wg_outcomes.specs.Judged.{Judged, accepted, built, map_then, status_of, unless_bad_map, with_map}
 use Rattle.wg_greedy.specs.Archive.{Archive}
-use Rattle.wg_outcomes.specs.Readings.{Readings}
-use Rattle.wg_outcomes.specs.declared.status.Input.TheVariants.{Map}
+use Rattle.wg_outcomes.specs.{Readings.Readings, declared.status.Input.TheVariants.Map, Commands.builds}
 use Rattle.wg_readings.proofs.ClassLemmas.{each_below}
 use Rattle.wg_laws.specs.Quotients.{QuotientsAreAccepted}
-use Rattle.wg_outcomes.specs.Commands.{builds}
-use Rattle.wg_laws.proofs.BuiltLemmas.{file_behind}
-use Rattle.wg_laws.proofs.ConversionLemmas.{read_again}
-use Rattle.wg_laws.proofs.HeldLemmas.{graph_behind}
+use Rattle.wg_laws.proofs.{BuiltLemmas.file_behind, ConversionLemmas.read_again, HeldLemmas.graph_behind}
 use Rattle.wg_laws.proofs.WeightsLemmas.{numbers_fit}
 
 abbrev told : List ℕ → Result (List ℕ) NumbersFault

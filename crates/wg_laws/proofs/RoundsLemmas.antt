@@ -2,24 +2,16 @@
 use Rattle.std.proofs.Common.{◌≡◌, ◌∙◌, ◌+◌, ◌<◌, ◌≤◌, ℕ, zero, suc, List, Option, inl, inr, sym, ap, arith, add-one}
 use Rattle.std.proofs.lemmas.Bool.{cases_lt}
 use Rattle.wg_graph.specs.Digraph.{Digraph}
-use Rattle.wg_rank.specs.Rank.{high, low, total}
-use Rattle.wg_rank.specs.Intervals.{Intervals, by_page}
-use Rattle.wg_rank.specs.Weights.{weights_of}
-use Rattle.wg_rank.proofs.Certificates.{gap_of}
-use Rattle.wg_rank.proofs.Pageranks.{gap_shrinks, high_falls, low_rises}
-use Rattle.wg_words.specs.declared.jobs.Job.TheVariants.{Rank}
-use Rattle.wg_outcomes.specs.Judged.{Judged, output_of, status_of, weights_then}
+use Rattle.wg_rank.specs.{Rank.high, Rank.low, Rank.total, Intervals.Intervals, Intervals.by_page, Weights.weights_of}
+use Rattle.wg_rank.proofs.{Certificates.gap_of, Pageranks.gap_shrinks, Pageranks.high_falls, Pageranks.low_rises}
+use Rattle.wg_words.specs.{declared.jobs.Job.TheVariants.Rank, declared.jobs.RankJob.RankJob}
+use Rattle.wg_outcomes.specs.{Judged.Judged, Judged.output_of, Judged.status_of, Judged.weights_then, Readings.Readings}
 use Rattle.wg_rank.specs.Rounds.{bounds_after}
-use Rattle.wg_words.specs.declared.jobs.RankJob.{RankJob}
-use Rattle.wg_outcomes.specs.Ranked.{bounds_for, text_for}
-use Rattle.wg_outcomes.specs.Readings.{Readings}
-use Rattle.wg_outcomes.specs.declared.status.Input.TheVariants.{Weights}
-use Rattle.wg_outcomes.specs.declared.status.Status.TheVariants.{Done}
-use Rattle.wg_outcomes.specs.Commands.{judged, ranks}
+use Rattle.wg_outcomes.specs.{Ranked.bounds_for, Ranked.text_for, declared.status.Input.TheVariants.Weights}
+use Rattle.wg_outcomes.specs.{declared.status.Status.TheVariants.Done, Commands.judged, Commands.ranks}
 use Rattle.wg_rank.proofs.After.{bounds_hold}
 use Rattle.wg_laws.specs.Rounds.{MoreRoundsNarrow, with_rounds}
-use Rattle.wg_laws.proofs.HeldLemmas.{graph_behind}
-use Rattle.wg_laws.proofs.WeightsLemmas.{weights_behind}
+use Rattle.wg_laws.proofs.{HeldLemmas.graph_behind, WeightsLemmas.weights_behind}
 
 -- what rises step by step rises, and what falls falls
 rises : (f : ℕ → ℕ) → ((k : ℕ) → f k ≤ f (k + 1)) → (k j : ℕ) → k ≤ j → f k ≤ f j

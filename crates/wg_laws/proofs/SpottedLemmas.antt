@@ -6,11 +6,9 @@ use Rattle.wg_bits.specs.Bits.{bits_of}
 use Rattle.wg_params.specs.Parameters.{Parameters, IsWithinLimits}
 use Rattle.wg_properties.specs.Judged.{properties_of}
 use Rattle.wg_graph.specs.Numbers.{numbers_where}
-use Rattle.wg_grammar.specs.Archive.{Accepted, Pages, ReadsGraph, context_of}
-use Rattle.wg_grammar.specs.Record.{Whole}
-use Rattle.wg_grammar.specs.declared.fault.ArchiveFault.{ArchiveFault}
+use Rattle.wg_grammar.specs.{Archive.Accepted, Archive.Pages, Archive.ReadsGraph, Archive.context_of, Record.Whole}
+use Rattle.wg_grammar.specs.{declared.fault.ArchiveFault.ArchiveFault, declared.fault.OffsetWord.OffsetWord}
 use Rattle.wg_grammar.specs.declared.fault.ArchiveFault.TheVariants as archive
-use Rattle.wg_grammar.specs.declared.fault.OffsetWord.{OffsetWord}
 use Rattle.wg_grammar.proofs.OneGraph.{record_onward}
 use Rattle.wg_offsets.specs.Places.{AgreeInLengths, ArePlaces, last_place, pages_that_differ, record_length}
 use Rattle.wg_offsets.specs.Words.{ReadsOffsets}
@@ -18,10 +16,8 @@ use Rattle.wg_offsets.proofs.PlacesLemmas.{places_within}
 use Rattle.wg_stream.proofs.AcceptedRecords.{read_of}
 use Rattle.wg_random.proofs.SpotAgree.{agrees}
 use Rattle.wg_outcomes.specs.Judged.{Judged, accepted, status_of, unless_bad_offsets, unless_some_differ, with_file, with_graph, with_lengths, with_offsets, with_pages, with_parameters, with_records, with_successors, offsets_then}
-use Rattle.wg_outcomes.specs.Readings.{Readings}
-use Rattle.wg_outcomes.specs.declared.status.Input.{Input}
+use Rattle.wg_outcomes.specs.{Readings.Readings, declared.status.Input.Input, declared.status.Status.TheVariants.Done}
 use Rattle.wg_outcomes.specs.declared.status.Input.TheVariants as input
-use Rattle.wg_outcomes.specs.declared.status.Status.TheVariants.{Done}
 use Rattle.wg_readings.proofs.ReadingsLemmas.{page_absent, page_refused, page_there, successors_go_on}
 use Rattle.wg_outcomes.specs.Commands.{line_in, ok_line, successors_line, successors_lines}
 use Rattle.wg_laws.specs.Spotted.{SpotsAreShown}

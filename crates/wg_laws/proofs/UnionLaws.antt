@@ -5,11 +5,9 @@ use Rattle.wg_params.specs.declared.limits.TheConstants.{MOST_ARCS, MOST_PAGES}
 use Rattle.wg_params.specs.Parameters.{Parameters, IsWithinLimits}
 use Rattle.wg_properties.specs.Judged.{properties_of}
 use Rattle.wg_graph.specs.Digraph.{Digraph, IsGraph, arc_count}
-use Rattle.wg_grammar.specs.Archive.{Accepted, ReadsGraph}
-use Rattle.wg_grammar.specs.Laws.{accepted_graph}
-use Rattle.wg_grammar.specs.declared.fault.ArchiveFault.{ArchiveFault}
+use Rattle.wg_grammar.specs.{Archive.Accepted, Archive.ReadsGraph, Laws.accepted_graph}
+use Rattle.wg_grammar.specs.{declared.fault.ArchiveFault.ArchiveFault, declared.fault.OffsetWord.OffsetWord}
 use Rattle.wg_grammar.specs.declared.fault.ArchiveFault.TheVariants as archive
-use Rattle.wg_grammar.specs.declared.fault.OffsetWord.{OffsetWord}
 use Rattle.wg_grammar.proofs.ProperGraphs.{graph_proper}
 use Rattle.wg_offsets.specs.Places.{pages_that_differ}
 use Rattle.wg_shape.specs.Graphs.{union_graph}
@@ -17,13 +15,10 @@ use Rattle.wg_shape.proofs.GraphUnions.{is_union}
 use Rattle.wg_arcs.specs.Text.{text_of_graph}
 use Rattle.wg_outcomes.specs.Judged.{Judged, accepted, built, status_of, unless_bad_offsets, unless_some_differ, with_archive, with_digraph, with_file, with_graph, with_lengths, with_offsets, with_parameters, with_records}
 use Rattle.wg_greedy.specs.Archive.{Archive}
-use Rattle.wg_outcomes.specs.Ranked.{HoldGraph}
-use Rattle.wg_outcomes.specs.Readings.{Readings}
-use Rattle.wg_outcomes.specs.Second.{of_second, second_held}
-use Rattle.wg_outcomes.specs.declared.status.Input.{Input}
+use Rattle.wg_outcomes.specs.{Ranked.HoldGraph, Readings.Readings, Second.of_second, Second.second_held}
+use Rattle.wg_outcomes.specs.{declared.status.Input.Input, Commands.builds, Commands.with_union}
 use Rattle.wg_outcomes.specs.declared.status.Input.TheVariants as input
 use Rattle.wg_outcomes.specs.declared.status.Status.TheVariants.{Done, BadArchive}
-use Rattle.wg_outcomes.specs.Commands.{builds, with_union}
 use Rattle.wg_laws.specs.Unions.{UnionsAreAccepted}
 use Rattle.wg_laws.proofs.ConversionLemmas.{read_again}
 use Rattle.wg_laws.proofs.HeldLemmas.{file_read, graph_read, read_within, text_read}

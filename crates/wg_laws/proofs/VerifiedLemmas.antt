@@ -1,25 +1,16 @@
 -- What `verify` has printed holds of the graph that the files stand for.
 use Rattle.std.proofs.Common.{◌≡◌, ◌∙◌, ◌<◌, ℕ, List, ◌++◌, Option, None, Result, refl, sym, ap, subst, arith}
 use Rattle.wg_graph.specs.Digraph.{Digraph}
-use Rattle.wg_rank.specs.Rank.{gap}
-use Rattle.wg_rank.specs.Sum.{sum_below}
-use Rattle.wg_rank.specs.Intervals.{by_page}
-use Rattle.wg_rank.specs.Claims.{Claim, weights_for}
-use Rattle.wg_rank.specs.Weights.{weights_of}
-use Rattle.wg_rank.specs.CertificateText.{claim_of}
-use Rattle.wg_rank.specs.declared.fault.CertFault.{CertFault}
+use Rattle.wg_rank.specs.{Rank.gap, Sum.sum_below, Intervals.by_page, Claims.Claim, Claims.weights_for}
+use Rattle.wg_rank.specs.{Weights.weights_of, CertificateText.claim_of, declared.fault.CertFault.CertFault}
 use Rattle.wg_rank.proofs.Certificates.{enclosing}
-use Rattle.wg_words.specs.declared.jobs.Job.TheVariants.{Verify}
-use Rattle.wg_words.specs.declared.jobs.VerifyJob.{VerifyJob}
+use Rattle.wg_words.specs.{declared.jobs.Job.TheVariants.Verify, declared.jobs.VerifyJob.VerifyJob}
 use Rattle.wg_outcomes.specs.Judged.{Judged, accepted, claim_then, output_of, status_of, unless_bad_claim, weights_then, with_claim}
-use Rattle.wg_outcomes.specs.Readings.{Readings}
-use Rattle.wg_outcomes.specs.declared.status.Input.{Input}
+use Rattle.wg_outcomes.specs.{Readings.Readings, declared.status.Input.Input, declared.status.Status.TheVariants.Done}
 use Rattle.wg_outcomes.specs.declared.status.Input.TheVariants as input
-use Rattle.wg_outcomes.specs.declared.status.Status.TheVariants.{Done}
 use Rattle.wg_outcomes.specs.Commands.{judged}
 use Rattle.wg_outcomes.specs.Verified.{PrintsProvenGap, first_fall, unless_falls, verified_line, with_gap}
-use Rattle.wg_laws.proofs.ClaimLemmas.{claim_within, right}
-use Rattle.wg_laws.proofs.HeldLemmas.{file_read, graph_behind}
+use Rattle.wg_laws.proofs.{ClaimLemmas.claim_within, ClaimLemmas.right, HeldLemmas.file_read, HeldLemmas.graph_behind}
 use Rattle.wg_outcomes.proofs.VerifyLemmas.{rises_all}
 use Rattle.wg_laws.proofs.WeightsLemmas.{weights_behind}
 

@@ -1,23 +1,18 @@
 -- Weights that a text gives are weights of the pages, and a validation that went on has them from its file.
 use Rattle.std.proofs.Common.{◌≡◌, ◌≤◌, ◌<◌, ◌+◌, ℕ, false, nat_eq, nat_lt, ◌&&◌, All, List, [], ◌∷◌, ◌++◌, length, Option, Some, None, Result, Ok, Err, inl, inr, refl, sym, ◌∙◌, ap, subst, arith}
-use Rattle.std.proofs.lemmas.Bool.{cases_Bool, leb-false}
-use Rattle.std.proofs.lemmas.List.{length-append}
+use Rattle.std.proofs.{lemmas.Bool.cases_Bool, lemmas.Bool.leb-false, lemmas.List.length-append}
 use Rattle.std.proofs.lemmas.List.Elements.{All-append, All-nil, All-weaker}
 use Rattle.wg_num.specs.Lines.{lines_of}
 use Rattle.wg_arcs.specs.Numbers.{and_then, numbers_from, numbers_of, numbers_on}
 use Rattle.wg_arcs.specs.declared.numbers_fault.NumbersFault.{NumbersFault}
-use Rattle.wg_rank.specs.Intervals.{by_page}
-use Rattle.wg_rank.specs.Sum.{sum_below}
-use Rattle.wg_rank.specs.Weights.{AreWeights, weights_of}
+use Rattle.wg_rank.specs.{Intervals.by_page, Sum.sum_below, Weights.AreWeights, Weights.weights_of}
 use Rattle.wg_rank.specs.declared.limits.TheConstants.{MOST_WEIGHT}
 use Rattle.wg_rank.proofs.Weighing.{ones}
 use Rattle.wg_outcomes.specs.Judged.{Judged, status_of, unless_bad_weights, unless_zero, weights_in, weights_then, with_weights}
-use Rattle.wg_outcomes.specs.declared.status.Input.{Input}
+use Rattle.wg_outcomes.specs.{declared.status.Input.Input, declared.status.Status.TheVariants.Done, Ranked.HoldWeights}
 use Rattle.wg_outcomes.specs.declared.status.Input.TheVariants as input
-use Rattle.wg_outcomes.specs.declared.status.Status.TheVariants.{Done}
 use Rattle.wg_outcomes.specs.declared.status.WeightsFault.{WeightsFault}
 use Rattle.wg_outcomes.specs.declared.status.WeightsFault.TheVariants.{Numbers, Zero}
-use Rattle.wg_outcomes.specs.Ranked.{HoldWeights}
 use Rattle.wg_laws.proofs.HeldLemmas.{file_read}
 
 -- ---- numbers that were read are as many as are wanted, each below the limit

@@ -1,40 +1,27 @@
 -- The certificate that a ranking writes is accepted.
 use Rattle.std.proofs.Common.{◌≡◌, ◌∙◌, ◌<◌, ◌≤◌, ◌+◌, ◌*◌, ◌^◌, ℕ, List, [], ◌∷◌, ◌++◌, length, codes, decimal, Option, Some, None, Result, refl, sym, ap, subst, arith}
-use Rattle.std.proofs.lemmas.Fmt.{length-decimal-le}
-use Rattle.std.proofs.lemmas.List.{length-append}
+use Rattle.std.proofs.{lemmas.Fmt.length-decimal-le, lemmas.List.length-append}
 use Rattle.wg_outside.specs.declared.limits.TheConstants.{MOST_BYTES}
 use Rattle.wg_num.specs.Units.{text_of_units}
 use Rattle.wg_num.proofs.UnitsRead.{text_length}
 use Rattle.wg_params.specs.declared.limits.TheConstants.{MOST_DAMPING, MOST_PAGES, MOST_ROUNDS}
 use Rattle.wg_params.specs.Parameters.{Parameters}
 use Rattle.wg_graph.specs.Digraph.{Digraph}
-use Rattle.wg_rank.specs.Rank.{gap}
-use Rattle.wg_rank.specs.Sum.{sum_below}
+use Rattle.wg_rank.specs.{Rank.gap, Sum.sum_below, Claims.Claim, Claims.IsClaim, Claims.Rises, Claims.claim_of_bounds}
 use Rattle.wg_rank.specs.Intervals.{AreBounds, AreBoundsOf, Intervals, by_page}
-use Rattle.wg_rank.specs.Claims.{Claim, IsClaim, Rises, claim_of_bounds}
-use Rattle.wg_rank.specs.Weights.{weights_of}
+use Rattle.wg_rank.specs.{Weights.weights_of, declared.fault.CertFault.CertFault, declared.limits.TheConstants.UNITS}
 use Rattle.wg_rank.specs.CertificateText.{bound_line, bound_lines, claim_of, named_line, text_of_claim}
-use Rattle.wg_rank.specs.declared.fault.CertFault.{CertFault}
-use Rattle.wg_rank.specs.declared.limits.TheConstants.{UNITS}
-use Rattle.wg_rank.proofs.Certificates.{complete}
-use Rattle.wg_rank.proofs.WrittenBack.{written_back}
+use Rattle.wg_rank.proofs.{Certificates.complete, WrittenBack.written_back, After.are_bounds, After.bounds_hold}
 use Rattle.wg_words.specs.declared.jobs.Job.TheVariants.{Rank, Verify}
 use Rattle.wg_outcomes.specs.Judged.{Judged, accepted, certified, claim_then, status_of, unless_bad_claim, weights_then, with_claim, with_digraph, with_records}
-use Rattle.wg_outcomes.specs.Readings.{Readings}
-use Rattle.wg_outcomes.specs.declared.status.Input.{Input}
+use Rattle.wg_outcomes.specs.{Readings.Readings, declared.status.Input.Input, Commands.judged, Commands.ranks}
 use Rattle.wg_outcomes.specs.declared.status.Input.TheVariants as input
 use Rattle.wg_laws.specs.Certificates.{AreStill}
-use Rattle.wg_outcomes.specs.Commands.{judged, ranks}
-use Rattle.wg_words.specs.declared.jobs.RankJob.{RankJob}
-use Rattle.wg_words.specs.declared.jobs.VerifyJob.{VerifyJob}
+use Rattle.wg_words.specs.{declared.jobs.RankJob.RankJob, declared.jobs.VerifyJob.VerifyJob}
 use Rattle.wg_outcomes.specs.Ranked.{bounds_for, certificate_text}
 use Rattle.wg_outcomes.specs.Verified.{first_fall, unless_falls, verified_line, with_gap}
-use Rattle.wg_laws.proofs.ClaimLemmas.{right}
-use Rattle.wg_laws.proofs.HeldLemmas.{graph_behind}
-use Rattle.wg_rank.proofs.After.{are_bounds, bounds_hold}
-use Rattle.wg_outcomes.proofs.VerifyLemmas.{none_falls}
-use Rattle.wg_outcomes.proofs.FileLemmas.{file_goes}
-use Rattle.wg_laws.proofs.WeightsLemmas.{weights_behind}
+use Rattle.wg_laws.proofs.{ClaimLemmas.right, HeldLemmas.graph_behind, WeightsLemmas.weights_behind}
+use Rattle.wg_outcomes.proofs.{VerifyLemmas.none_falls, FileLemmas.file_goes}
 
 -- ---- the text of a claim is no longer than a file may be
 lines_length : (low : List ℕ) → length (bound_lines low) ≡ 27 * length low

@@ -1,27 +1,19 @@
 -- What is said of a source of a file is said of the depot that is seen again behind it.
 use Rattle.std.proofs.Common.{◌≡◌, ℕ, Bool, List, Some, Result, Err, refl, sym, subst, arith}
-use Rattle.std.specs.Bool.{IsTrue}
+use Rattle.std.specs.{Bool.IsTrue, Result.IfErr}
 use Rattle.std.specs.FinMap as map
-use Rattle.std.specs.Result.{IfErr}
 use Rattle.wg_bits.specs.Bits.{bits_of}
-use Rattle.wg_outside.specs.Outside.{Files, Counts}
-use Rattle.wg_outside.specs.declared.whole.LoadError.{LoadError}
-use Rattle.wg_params.specs.declared.code.Code.{Code}
-use Rattle.wg_params.specs.Parameters.{Parameters}
-use Rattle.wg_source.specs.Held.{HeldBytes, IsHeldOf}
-use Rattle.wg_source.specs.Stepping.{Steps, Moves, HasCause}
+use Rattle.wg_outside.specs.{Outside.Files, Outside.Counts, declared.whole.LoadError.LoadError}
+use Rattle.wg_params.specs.{declared.code.Code.Code, Parameters.Parameters}
+use Rattle.wg_source.specs.{Held.HeldBytes, Held.IsHeldOf, Stepping.Steps, Stepping.Moves, Stepping.HasCause}
 use Rattle.wg_grammar.specs.Errors.{OfFault, OfRefusal, OnFault, OnRefusal, WantsNoMemory}
-use Rattle.wg_offsets.specs.Words.{ReadsOffsets}
-use Rattle.wg_offsets.specs.Sampling.{IsSampleOf}
-use Rattle.wg_grammar.specs.declared.error.ReadError.{ReadError}
-use Rattle.wg_grammar.specs.declared.fault.OffsetWord.{OffsetWord}
+use Rattle.wg_offsets.specs.{Words.ReadsOffsets, Sampling.IsSampleOf}
+use Rattle.wg_grammar.specs.{declared.error.ReadError.ReadError, declared.fault.OffsetWord.OffsetWord}
 use Rattle.wg_outcomes.specs.declared.ending.Ending.{Ending}
-use Rattle.wg_readings.specs.Pairing.{IsStopped, word_ending}
+use Rattle.wg_readings.specs.{Pairing.IsStopped, Pairing.word_ending, Finding.IsOpenOn}
 use Rattle.wg_readings.proofs.PairingLemmas.{word_stopped}
-use Rattle.wg_lookups.specs.Sampling.{HasWordCause}
-use Rattle.wg_lookups.specs.declared.sampled.SampledFile.{SampledFile}
+use Rattle.wg_lookups.specs.{Sampling.HasWordCause, declared.sampled.SampledFile.SampledFile}
 use Rattle.wg_lookups.proofs.SamplingLemmas.{word_caused}
-use Rattle.wg_readings.specs.Finding.{IsOpenOn}
 
 -- the bits of a file that is there, of which this is held
 abbrev pub HasBitsOf : Bool → Files → List ℕ → HeldBytes → List Bool → Type 0

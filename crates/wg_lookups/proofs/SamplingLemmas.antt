@@ -1,23 +1,18 @@
 -- Words of an offsets file that are read again.
 use Rattle.std.proofs.Common.{◌≡◌, ◌<◌, ◌≤◌, ◌/◌, ℕ, Bool, List, length, Result, Ok, Err, arith, refl}
-use Rattle.std.specs.Bool.{IsTrue}
+use Rattle.std.specs.{Bool.IsTrue, Result.IfErr}
 use Rattle.std.specs.FinMap as map
-use Rattle.std.specs.Result.{IfErr}
 use Rattle.wg_bits.specs.Bits.{bits_of}
-use Rattle.wg_outside.specs.Outside.{Files, Counts}
-use Rattle.wg_outside.specs.declared.whole.LoadError.{LoadError}
-use Rattle.wg_grammar.specs.Errors.{OnFault, OnRefusal, WantsNoMemory}
+use Rattle.wg_outside.specs.{Outside.Files, Outside.Counts, declared.whole.LoadError.LoadError}
+use Rattle.wg_grammar.specs.{Errors.OnFault, Errors.OnRefusal, Errors.WantsNoMemory, declared.error.ReadError.ReadError}
 use Rattle.wg_offsets.specs.Sampling.{IsSampleOf, Sampled, bit_before}
-use Rattle.wg_grammar.specs.declared.error.ReadError.{ReadError}
 use Rattle.wg_grammar.specs.declared.fault.OffsetWord.{OffsetWord}
 use Rattle.wg_grammar.specs.declared.error.ReadError.TheVariants as words
 use Rattle.wg_offsets.specs.declared.samples.TheConstants.{SAMPLED}
 use Rattle.wg_offsets.proofs.SamplesLemmas.{prefix_fits}
-use Rattle.wg_source.specs.Held.{HeldBytes}
+use Rattle.wg_source.specs.{Held.HeldBytes, StepLaws.cause_after}
 use Rattle.wg_source.specs.Stepping.{Moves, HasCause as HasReadCause}
-use Rattle.wg_source.specs.StepLaws.{cause_after}
-use Rattle.wg_lookups.specs.Sampling.{HasWordCause, IsSampledOn}
-use Rattle.wg_lookups.specs.declared.sampled.SampledFile.{SampledFile}
+use Rattle.wg_lookups.specs.{Sampling.HasWordCause, Sampling.IsSampledOn, declared.sampled.SampledFile.SampledFile}
 
 -- the cause of an error after a move
 pub word_caused : {A : Type 0} (told : Bool) (f1 f2 : Files) (c1 c2 c3 : List ℕ → Counts) (s : SampledFile) (h : HeldBytes) (x : Result A (ReadError OffsetWord LoadError))

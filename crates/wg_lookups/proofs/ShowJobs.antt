@@ -1,26 +1,19 @@
 -- How `show` goes on from step to step, or ends.
 use Rattle.std.proofs.Common.{◌≡◌, ◌∙◌, inl, ℕ, Bool, true, false, List, [], ◌∷◌, Option, Result, Ok, Err, refl, sym, subst}
-use Rattle.std.specs.Bool.{IsTrue}
-use Rattle.std.specs.Result.{IfErr}
-use Rattle.wg_outside.specs.Outside.{Files, Counts, Increased}
-use Rattle.wg_outside.specs.Puts.{Puts}
+use Rattle.std.specs.{Bool.IsTrue, Result.IfErr}
+use Rattle.wg_outside.specs.{Outside.Files, Outside.Counts, Outside.Increased, Puts.Puts}
 use Rattle.wg_outside.specs.declared.output.Output.TheVariants.{Out}
 use Rattle.wg_bits.specs.Bits.{bits_of}
 use Rattle.wg_params.specs.Parameters.{Parameters, IsWithinLimits}
 use Rattle.wg_grammar.specs.Archive.{Accepted, ReadsGraph}
 use Rattle.wg_graph.specs.Numbers.{is_in}
-use Rattle.wg_words.specs.declared.jobs.Job.{Job}
-use Rattle.wg_words.specs.declared.jobs.Job.TheVariants.{Show}
-use Rattle.wg_outcomes.specs.Answers.{Answers, IsUnput, Steps, status_in}
-use Rattle.wg_outcomes.specs.Commands.{successors_lines}
+use Rattle.wg_words.specs.{declared.jobs.Job.Job, declared.jobs.Job.TheVariants.Show}
+use Rattle.wg_outcomes.specs.{Answers.Answers, Answers.IsUnput, Answers.Steps, Answers.status_in, Names.file_of}
+use Rattle.wg_outcomes.specs.{Commands.successors_lines, Promised.IsBadFile, Promised.promised_in, Readings.Readings}
 use Rattle.wg_outcomes.specs.Judged.{Judged, accepted, with_file, with_graph, with_lengths, with_pages, offsets_then}
 use Rattle.wg_readings.specs.Loading.{JudgesOffsets, Loads, LoadsParams, lengths_then}
-use Rattle.wg_outcomes.specs.Names.{file_of}
 use Rattle.wg_outcomes.specs.Performs.{OutCounts, Outside, Performs, outside}
-use Rattle.wg_outcomes.specs.Promised.{IsBadFile, promised_in}
-use Rattle.wg_outcomes.specs.Readings.{Readings}
-use Rattle.wg_outcomes.specs.declared.ending.Ending.{Ending}
-use Rattle.wg_outcomes.specs.declared.status.Input.{Input}
+use Rattle.wg_outcomes.specs.{declared.ending.Ending.Ending, declared.status.Input.Input}
 use Rattle.wg_outcomes.specs.declared.status.Input.TheVariants.{Properties, Graph, Offsets}
 use Rattle.wg_outcomes.specs.declared.status.Status.TheVariants.{NoPage, WriteFault}
 use Rattle.wg_readings.proofs.JobSteps.{ComesTo, comes_on, ends, ends_reading, loaded, prints, refuses, refuses_page, unloaded}

@@ -3,20 +3,15 @@ use Rattle.std.proofs.Common.{◌≡◌, ◌∙◌, get_or, ℕ, List, [], ◌++
 use Rattle.wg_params.specs.Parameters.{Parameters}
 use Rattle.wg_grammar.specs.Archive.{Accepted, ReadsGraph}
 use Rattle.wg_random.specs.Checked.{CheckedRecords}
-use Rattle.wg_outside.specs.Puts.{joined}
+use Rattle.wg_outside.specs.{Puts.joined, Outside.Files}
 use Rattle.wg_lines.specs.Printing.{HasPrinted, HasPrintedLess, Prints}
-use Rattle.std.specs.Bool.{IsTrue}
-use Rattle.std.specs.Result.{IsErrAnd}
+use Rattle.std.specs.{Bool.IsTrue, Result.IsErrAnd}
 use Rattle.wg_outside.proofs.PutsLemmas.{is_that_err}
 use Rattle.wg_outside.specs.declared.sink.Sink as sink
-use Rattle.wg_outcomes.specs.Answers.{PrintRefusals}
-use Rattle.wg_outcomes.specs.Commands.{spaced, successors_line}
-use Rattle.wg_outside.specs.Outside.{Files}
-use Rattle.wg_outcomes.specs.Names.{file_of, held_by}
-use Rattle.wg_outcomes.specs.declared.status.Input.{Input}
+use Rattle.wg_outcomes.specs.{Answers.PrintRefusals, Commands.spaced, Commands.successors_line}
+use Rattle.wg_outcomes.specs.{Names.file_of, Names.held_by, declared.status.Input.Input, declared.ending.Ending.Ending}
 use Rattle.wg_readings.specs.Loading.{IsPropertiesFile}
 use Rattle.wg_lookups.specs.Showing.{OpensChains, PrintsLine}
-use Rattle.wg_outcomes.specs.declared.ending.Ending.{Ending}
 use Rattle.wg_outcomes.specs.declared.status.Status.TheVariants.{Memory}
 
 -- a text that was left out, at an early exit

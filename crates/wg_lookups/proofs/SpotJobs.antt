@@ -1,53 +1,38 @@
 -- How `spot` goes on from step to step, or ends.
 use Rattle.std.proofs.Common.{◌≡◌, ◌≢◌, ◌⊎◌, ◌∙◌, arith, length, inl, inr, ℕ, ◌<◌, ◌≤◌, Bool, List, [], ◌∷◌, Option, Some, Result, Ok, Err, option_and_then, refl, sym, ap, subst}
-use Rattle.std.specs.Bool.{IsTrue}
+use Rattle.std.specs.{Bool.IsTrue, Prelude.unwrap_or, Result.IfErr}
 use Rattle.std.specs.FinMap as map
 use Rattle.std.proofs.lemmas.Bool.{eq-eqb}
-use Rattle.std.specs.Prelude.{unwrap_or}
-use Rattle.std.specs.Result.{IfErr}
-use Rattle.wg_outside.specs.Outside.{Files, Counts, Increased, NonDecreasing}
-use Rattle.wg_outside.specs.Puts.{Puts}
-use Rattle.wg_outside.specs.declared.output.Output.TheVariants.{Out}
-use Rattle.wg_outside.specs.declared.whole.LoadError.{LoadError}
+use Rattle.wg_outside.specs.{Outside.Files, Outside.Counts, Outside.Increased, Outside.NonDecreasing, Puts.Puts}
+use Rattle.wg_outside.specs.{declared.output.Output.TheVariants.Out, declared.whole.LoadError.LoadError}
 use Rattle.wg_outside.specs.declared.whole.LoadError.TheVariants as load
 use Rattle.wg_outside.specs.declared.limits.TheConstants.{MOST_BYTES}
 use Rattle.wg_outside.proofs.FilesLemmas.{none_falls-trans}
 use Rattle.wg_bits.specs.Bits.{bits_of}
 use Rattle.wg_params.specs.Parameters.{Parameters, IsWithinLimits}
-use Rattle.wg_grammar.specs.declared.fault.ArchiveFault.{ArchiveFault}
+use Rattle.wg_grammar.specs.{declared.fault.ArchiveFault.ArchiveFault, Errors.OfRefusal}
 use Rattle.wg_grammar.specs.declared.fault.ArchiveFault.TheVariants as archive
 use Rattle.wg_source.specs.Held.{HeldBytes}
 use Rattle.wg_source.specs.Stepping.{HasCause as HasReadCause}
-use Rattle.wg_grammar.specs.Errors.{OfRefusal}
 use Rattle.wg_grammar.specs.declared.error.ReadError.{ReadError}
 use Rattle.wg_grammar.specs.declared.error.ReadError.TheVariants as errors
 use Rattle.wg_random.specs.Spot.{ChainAnswers}
-use Rattle.wg_words.specs.declared.jobs.Job.{Job}
-use Rattle.wg_words.specs.declared.jobs.Job.TheVariants.{Spot}
-use Rattle.wg_outcomes.specs.Answers.{Answers, IsHindrance, IsUnput, status_in}
-use Rattle.wg_outcomes.specs.Causes.{HasCause}
-use Rattle.wg_outcomes.specs.Commands.{successors_line}
+use Rattle.wg_words.specs.{declared.jobs.Job.Job, declared.jobs.Job.TheVariants.Spot}
+use Rattle.wg_outcomes.specs.{Answers.Answers, Answers.IsHindrance, Answers.IsUnput, Answers.status_in, Causes.HasCause}
+use Rattle.wg_outcomes.specs.{Commands.successors_line, Names.IsOfInput, Names.file_of, Names.held_by, Names.no_outputs}
 use Rattle.wg_outcomes.specs.Judged.{Judged, accepted, status_of, with_file, with_successors, offsets_then}
-use Rattle.wg_outcomes.specs.Names.{IsOfInput, file_of, held_by, no_outputs}
 use Rattle.wg_outcomes.specs.Performs.{OutCounts, Outside, Performs, outside}
-use Rattle.wg_outcomes.specs.Promised.{promised_in}
-use Rattle.wg_outcomes.specs.Readings.{Readings}
-use Rattle.wg_outcomes.specs.declared.ending.Ending.{Ending}
-use Rattle.wg_outcomes.specs.declared.status.Input.{Input}
+use Rattle.wg_outcomes.specs.{Promised.promised_in, Readings.Readings, declared.ending.Ending.Ending}
+use Rattle.wg_outcomes.specs.{declared.status.Input.Input, declared.status.Status.Status}
 use Rattle.wg_outcomes.specs.declared.status.Input.TheVariants.{Properties, Graph, Offsets}
-use Rattle.wg_outcomes.specs.declared.status.Status.{Status}
 use Rattle.wg_outcomes.specs.declared.status.Status.TheVariants.{BadArchive, Done, Memory, NoPage, WriteFault}
 use Rattle.wg_outcomes.proofs.Statuses.{IsOwn, own_caused}
-use Rattle.wg_readings.specs.Finding.{IsOpenOn}
-use Rattle.wg_readings.specs.Loading.{Loads, LoadsParams, Reads, status_at}
-use Rattle.wg_readings.proofs.FindingLemmas.{caused_at, of_input}
+use Rattle.wg_readings.specs.{Finding.IsOpenOn, Loading.Loads, Loading.LoadsParams, Loading.Reads, Loading.status_at}
+use Rattle.wg_readings.proofs.{FindingLemmas.caused_at, FindingLemmas.of_input, PassLemmas.file_goes}
 use Rattle.wg_readings.proofs.JobSteps.{ComesTo, comes_on, ends, ends_reading, loaded, prints, refuses, refuses_page, unloaded}
-use Rattle.wg_readings.proofs.PassLemmas.{file_goes}
 use Rattle.wg_readings.proofs.ReadingsLemmas.{chain_refused, page_refused, successors_go_on}
-use Rattle.wg_lookups.specs.Sampling.{IsSampled}
-use Rattle.wg_lookups.specs.declared.found_file.FoundFile.{FoundFile}
-use Rattle.wg_lookups.specs.declared.sampled.SampledFile.{SampledFile}
-use Rattle.wg_lookups.specs.declared.chain_files.Unread.{Unread}
+use Rattle.wg_lookups.specs.{Sampling.IsSampled, declared.found_file.FoundFile.FoundFile}
+use Rattle.wg_lookups.specs.{declared.sampled.SampledFile.SampledFile, declared.chain_files.Unread.Unread}
 use Rattle.wg_lookups.specs.declared.chain_files.Unread.TheVariants as unread
 use Rattle.wg_lookups.specs.ChainFiles.{HasBits, HasChainCause, HasPlaces}
 use Rattle.wg_lookups.specs.Spotting.{EndsBy, IsBadPage, SpotsPage, spotted_then, successors_then}

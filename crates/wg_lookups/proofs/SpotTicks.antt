@@ -7,19 +7,14 @@ use Rattle.wg_outside.proofs.PutsLemmas.{is_that_err}
 use Rattle.wg_bits.specs.Bits.{bits_of}
 use Rattle.wg_params.specs.Parameters.{Parameters}
 use Rattle.wg_source.specs.Held.{HeldBytes, IsHeldOf}
-use Rattle.wg_grammar.specs.declared.error.ReadError.{ReadError}
-use Rattle.wg_grammar.specs.declared.fault.ArchiveFault.{ArchiveFault}
+use Rattle.wg_grammar.specs.{declared.error.ReadError.ReadError, declared.fault.ArchiveFault.ArchiveFault}
 use Rattle.wg_random.specs.Spot.{ChainAnswers}
-use Rattle.wg_outcomes.specs.Names.{file_of, held_by}
-use Rattle.wg_outcomes.specs.declared.ending.Ending.{Ending}
-use Rattle.wg_outcomes.specs.declared.status.Input.{Input}
+use Rattle.wg_outcomes.specs.{Names.file_of, Names.held_by, declared.ending.Ending.Ending, declared.status.Input.Input}
 use Rattle.wg_outcomes.specs.declared.status.Input.TheVariants.{Graph}
 use Rattle.wg_readings.specs.Finding.{IsOpenOn}
 use Rattle.wg_lookups.proofs.ShownLemmas.{if_always}
-use Rattle.wg_lookups.specs.Sampling.{IsSampled}
-use Rattle.wg_lookups.specs.Spotting.{IsChainOpened, OpensChain, SpotsByChain}
-use Rattle.wg_lookups.specs.declared.chain_files.Unread.{Unread}
-use Rattle.wg_lookups.specs.declared.sampled.SampledFile.{SampledFile}
+use Rattle.wg_lookups.specs.{Sampling.IsSampled, Spotting.IsChainOpened, Spotting.OpensChain, Spotting.SpotsByChain}
+use Rattle.wg_lookups.specs.{declared.chain_files.Unread.Unread, declared.sampled.SampledFile.SampledFile}
 
 -- a job that has ended before it opened any
 pub none_spotted : (held : Input → Option (List ℕ)) (p : Parameters) (bytes : List ℕ) (page n : ℕ) (r : Result (Unit {0}) Ending) (e : Ending) → IsErrAnd r (λ x. x ≡ e) → SpotsByChain held p bytes page n n r

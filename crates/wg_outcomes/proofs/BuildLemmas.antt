@@ -1,29 +1,22 @@
 -- What a job that writes an archive leaves, by the archive's own names.
 use Rattle.std.proofs.Common.{◌≡◌, ◌≢◌, ◌⊎◌, inl, inr, ℕ, Bool, true, false, if◌then◌else◌, List, refl, sym, ap, subst, ◌∙◌, Option, Some, None, is_some, Result, arith}
-use Rattle.std.specs.Bool.{IsTrue}
-use Rattle.std.specs.Result.{IfErr}
-use Rattle.std.proofs.lemmas.List.{append-nil}
-use Rattle.std.proofs.lemmas.Result.{IfErr-weaker}
-use Rattle.wg_outside.specs.Outside.{Files, Counts, NonDecreasing}
-use Rattle.wg_outside.specs.declared.output.Output.{Output}
+use Rattle.std.specs.{Bool.IsTrue, Result.IfErr}
+use Rattle.std.proofs.{lemmas.List.append-nil, lemmas.Result.IfErr-weaker}
+use Rattle.wg_outside.specs.{Outside.Files, Outside.Counts, Outside.NonDecreasing, declared.output.Output.Output}
 use Rattle.wg_outside.specs.declared.output.Output.TheVariants as output
 use Rattle.wg_outside.proofs.FilesLemmas.{none_falls-trans}
-use Rattle.wg_outcomes.specs.Answers.{Answers, HasOutput, IsUnput, status_in}
-use Rattle.wg_outcomes.specs.Causes.{HasCause, IncreasedAt}
+use Rattle.wg_outcomes.specs.{Answers.Answers, Answers.HasOutput, Answers.IsUnput, Answers.status_in, Readings.Readings}
+use Rattle.wg_outcomes.specs.{Causes.HasCause, Causes.IncreasedAt, Promised.ArePromised, Promised.promised_in}
 use Rattle.wg_graph.specs.Digraph.{Digraph}
 use Rattle.wg_words.specs.declared.jobs.Job.{Job}
 use Rattle.wg_params.specs.declared.layout.Layout.{Layout}
-use Rattle.wg_outcomes.specs.Commands.{builds, greedy_line, written_by}
+use Rattle.wg_outcomes.specs.{Commands.builds, Commands.greedy_line, Commands.written_by, declared.ending.Ending.Ending}
 use Rattle.wg_outcomes.specs.Judged.{Written, an_archive, files_of, output_of, status_of}
 use Rattle.wg_greedy.specs.Archive.{Archive}
-use Rattle.wg_outcomes.specs.Promised.{ArePromised, promised_in}
 use Rattle.wg_outcomes.specs.JobFiles.{can_end, has_output, input_name, output_name, writes_files}
-use Rattle.wg_outcomes.specs.Names.{archive_named, held_by}
+use Rattle.wg_outcomes.specs.{Names.archive_named, Names.held_by, declared.status.Input.Input}
 use Rattle.wg_outcomes.specs.Performs.{BuildsArchive, Outside, Performs, Produces, judged_on, outside}
-use Rattle.wg_outcomes.specs.Readings.{Readings}
 use Rattle.wg_outcomes.specs.Written.{AreAllWhole, ArchiveFiles, AreWhole, HasFiles, OthersStay, FilesAfter, IsStopped, greedy_archive, params_for}
-use Rattle.wg_outcomes.specs.declared.ending.Ending.{Ending}
-use Rattle.wg_outcomes.specs.declared.status.Input.{Input}
 use Rattle.wg_outcomes.specs.declared.status.Status.{Status}
 use Rattle.wg_outcomes.specs.declared.status.Status.TheVariants.{Done, WriteFault}
 use Rattle.wg_outcomes.proofs.Statuses.{IsRead, by_put, by_stopped, by_written}

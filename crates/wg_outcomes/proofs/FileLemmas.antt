@@ -5,13 +5,11 @@ use Rattle.wg_outside.specs.declared.limits.TheConstants.{MOST_BYTES}
 use Rattle.wg_params.specs.Parameters.{Parameters}
 use Rattle.wg_graph.specs.Copied.{ends_of}
 use Rattle.wg_graph.proofs.Copies.{sum_cons}
-use Rattle.wg_offsets.specs.Places.{last_place}
-use Rattle.wg_offsets.specs.Words.{places_of}
+use Rattle.wg_offsets.specs.{Places.last_place, Words.places_of}
 use Rattle.wg_offsets.proofs.WordsLemmas.{length_ends}
 use Rattle.wg_greedy.specs.Archive.{graph_bits, offset_values, record_bits}
 use Rattle.wg_greedy.proofs.Totals.{values_sum}
-use Rattle.wg_outcomes.specs.Judged.{Judged, refused, with_file}
-use Rattle.wg_outcomes.specs.declared.status.Input.{Input}
+use Rattle.wg_outcomes.specs.{Judged.Judged, Judged.refused, Judged.with_file, declared.status.Input.Input}
 use Rattle.wg_outcomes.specs.declared.status.Status.TheVariants.{OverLimit}
 
 -- the last of the ends is what the values add up to

@@ -1,34 +1,23 @@
 -- How a job is shown to have been done, or to have ended.
 use Rattle.std.proofs.Common.{◌≡◌, ◌⊎◌, inl, inr, ℕ, Bool, true, false, if◌then◌else◌, List, refl, sym, ◌∙◌, ap, subst, Option, Some, None, Result, Err, [], arith}
-use Rattle.std.specs.Bool.{IsTrue}
-use Rattle.std.specs.Result.{IfErr}
+use Rattle.std.specs.{Bool.IsTrue, Result.IfErr}
 use Rattle.std.proofs.lemmas.List.{append-nil}
 use Rattle.std.specs.FinMap as map
-use Rattle.wg_outside.specs.Outside.{Files, Counts, NonDecreasing, Increased}
-use Rattle.wg_outside.specs.Puts.{Puts}
+use Rattle.wg_outside.specs.{Outside.Files, Outside.Counts, Outside.NonDecreasing, Outside.Increased, Puts.Puts}
 use Rattle.wg_outside.specs.declared.depot.Depot as depot
 use Rattle.wg_outside.specs.declared.sink.Sink as sink
-use Rattle.wg_outside.specs.declared.output.Output.{Output}
-use Rattle.wg_outside.specs.declared.output.Output.TheVariants.{Out}
-use Rattle.wg_words.specs.declared.jobs.Job.{Job}
-use Rattle.wg_words.specs.declared.jobs.Job.TheVariants.{Bulk}
+use Rattle.wg_outside.specs.{declared.output.Output.Output, declared.output.Output.TheVariants.Out}
+use Rattle.wg_words.specs.{declared.jobs.Job.Job, declared.jobs.Job.TheVariants.Bulk}
 use Rattle.wg_vectors.specs.Generated.{generated}
-use Rattle.wg_outcomes.specs.Bulk.{outcome_of, outcome_text}
-use Rattle.wg_outcomes.specs.Reached.{Reaches}
+use Rattle.wg_outcomes.specs.{Bulk.outcome_of, Bulk.outcome_text, Reached.Reaches, Commands.judged, Commands.written_by}
 use Rattle.wg_outcomes.specs.Answers.{Answers, HasOutput, IsPutLast, IsUnput, status_in, IsHindrance, Steps}
-use Rattle.wg_outcomes.specs.Causes.{AreFaultless, HasCause, IncreasedAt}
-use Rattle.wg_outcomes.specs.Commands.{judged, written_by}
+use Rattle.wg_outcomes.specs.{Causes.AreFaultless, Causes.HasCause, Causes.IncreasedAt, Readings.Readings}
 use Rattle.wg_outcomes.specs.Judged.{Judged, accepted, files_of, output_of, status_of, Written, refused}
-use Rattle.wg_outcomes.specs.Promised.{ArePromised, promised_in}
+use Rattle.wg_outcomes.specs.{Promised.ArePromised, Promised.promised_in, Untold.DoesAnywhere, Untold.GeneratesAnywhere}
 use Rattle.wg_outcomes.specs.JobFiles.{can_end, has_input, input_name, output_name, prints_in_parts, writes_files}
-use Rattle.wg_outcomes.specs.Names.{held_by, no_outputs, IsOfInput}
+use Rattle.wg_outcomes.specs.{Names.held_by, Names.no_outputs, Names.IsOfInput, Written.AreAllWhole, Written.HasFiles}
 use Rattle.wg_outcomes.specs.Performs.{DoesAlone, DoesOrEnds, Outside, Performs, judged_on}
-use Rattle.wg_outcomes.specs.Readings.{Readings}
-use Rattle.wg_outcomes.specs.Untold.{DoesAnywhere, GeneratesAnywhere}
-use Rattle.wg_outcomes.specs.Written.{AreAllWhole, HasFiles}
-use Rattle.wg_outcomes.specs.declared.ending.Ending.{Ending}
-use Rattle.wg_outcomes.specs.declared.status.Input.{Input}
-use Rattle.wg_outcomes.specs.declared.status.Status.{Status}
+use Rattle.wg_outcomes.specs.{declared.ending.Ending.Ending, declared.status.Input.Input, declared.status.Status.Status}
 use Rattle.wg_outcomes.specs.declared.status.Status.TheVariants.{Done, Memory, ReadFault, WriteFault, Usage}
 use Rattle.wg_outcomes.proofs.Statuses.{IsRead, IsStop, by_input, by_put, cause_named, unput_cause}
 

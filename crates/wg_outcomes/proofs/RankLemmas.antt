@@ -1,15 +1,11 @@
 -- Bounds that were made are those of the validation, and so is their ranking; and what is proved of it.
 use Rattle.std.proofs.Common.{◌≡◌, ℕ, List, length, take, min, true, refl, sym, ◌∙◌, ap}
-use Rattle.std.proofs.lemmas.List.{take_min}
-use Rattle.std.proofs.lemmas.List.Sorted.{length_permutation}
+use Rattle.std.proofs.{lemmas.List.take_min, lemmas.List.Sorted.length_permutation}
 use Rattle.std.proofs.lemmas.List.FromFn.{length-range_with_len}
-use Rattle.wg_rank.specs.Rank.{low, high}
-use Rattle.wg_rank.specs.Intervals.{Intervals, AreBounds}
-use Rattle.wg_rank.proofs.Certificates.{certified}
+use Rattle.wg_rank.specs.{Rank.low, Rank.high, Intervals.Intervals, Intervals.AreBounds, Rounds.bounds_after}
+use Rattle.wg_rank.proofs.{Certificates.certified, After.are_bounds, After.bounds_hold}
 use Rattle.wg_order.specs.Order.{IsRanking, Positions}
 use Rattle.wg_order.proofs.Surely.{surely_from}
-use Rattle.wg_rank.specs.Rounds.{bounds_after}
-use Rattle.wg_rank.proofs.After.{are_bounds, bounds_hold}
 use Rattle.wg_outcomes.specs.Readings.{Readings}
 use Rattle.wg_outcomes.specs.Ranked.{RankingIsProven, pages_of, positions_of, rank_lines, ranking_text}
 

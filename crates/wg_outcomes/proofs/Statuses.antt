@@ -1,21 +1,14 @@
 -- What a status tells by itself, however the job has come to it.
 use Rattle.std.proofs.Common.{◌≡◌, ◌≤◌, ℕ, List, sym, subst, refl, Option, Some, Result, Err, arith}
 use Rattle.std.specs.Result.{IfErr}
-use Rattle.wg_outside.specs.Outside.{Counts, Increased}
-use Rattle.wg_outside.specs.declared.output.Output.{Output}
-use Rattle.wg_outside.specs.declared.output.Output.TheVariants.{Out}
+use Rattle.wg_outside.specs.{Outside.Counts, Outside.Increased, declared.output.Output.Output, Refusals.SinkRefusals}
+use Rattle.wg_outside.specs.{declared.output.Output.TheVariants.Out, declared.depot.WriteError.WriteError}
 use Rattle.wg_outside.proofs.PutsLemmas.{not_rose}
-use Rattle.wg_outside.specs.Refusals.{SinkRefusals}
-use Rattle.wg_outside.specs.declared.depot.WriteError.{WriteError}
 use Rattle.wg_outside.specs.declared.sink.Sink as sink
 use Rattle.wg_outcomes.specs.Answers.{IsHindrance, IsUnput, PrintRefusals, status_in, unput}
-use Rattle.wg_outcomes.specs.Causes.{HasCause, IncreasedAt}
-use Rattle.wg_outcomes.specs.Names.{IsOfInput, no_outputs}
-use Rattle.wg_outcomes.specs.Promised.{IsStopAt, IsBadFile}
-use Rattle.wg_outcomes.specs.Written.{IsStopped, IsStoppedAt}
-use Rattle.wg_outcomes.specs.declared.ending.Ending.{Ending}
-use Rattle.wg_outcomes.specs.declared.status.Input.{Input}
-use Rattle.wg_outcomes.specs.declared.status.Status.{Status}
+use Rattle.wg_outcomes.specs.{Causes.HasCause, Causes.IncreasedAt, Names.IsOfInput, Names.no_outputs}
+use Rattle.wg_outcomes.specs.{Promised.IsStopAt, Promised.IsBadFile, Written.IsStopped, Written.IsStoppedAt}
+use Rattle.wg_outcomes.specs.{declared.ending.Ending.Ending, declared.status.Input.Input, declared.status.Status.Status}
 use Rattle.wg_outcomes.specs.declared.status.Status.TheVariants.{Done, Memory, ReadFault, WriteFault, Missing, OverLimit}
 
 -- a count that rose later rose

@@ -1,7 +1,6 @@
 -- Pages to which their bounds leave one position alone.
 use Rattle.std.proofs.Common.{◌≡◌, ℕ, zero, suc, ◌+◌, ◌-◌, ◌<◌, ◌≤◌, cond, nat_lt, List, ◌++◌, None, inl, inr, refl, subst, arith}
-use Rattle.std.proofs.lemmas.Bool.{cases_lt, eqb-true}
-use Rattle.std.proofs.lemmas.Bool.Decides.{nat_tests}
+use Rattle.std.proofs.{lemmas.Bool.cases_lt, lemmas.Bool.eqb-true, lemmas.Bool.Decides.nat_tests}
 use Rattle.wg_params.specs.declared.limits.TheConstants.{MOST_GENERATED}
 use Rattle.wg_graph.specs.Digraph.{Digraph}
 use Rattle.wg_vectors.specs.Generated.{generated}
@@ -12,9 +11,7 @@ use Rattle.wg_order.specs.Order.{Positions, best, worst}
 use Rattle.wg_order.specs.Surely.{AreOrdered, count_greater, count_smaller}
 use Rattle.wg_words.specs.declared.defaults.TheConstants.{DEFAULT_DAMPING}
 use Rattle.wg_outcomes.specs.Bulk.{HavePositions, PrintsProvenOutcome, bulk_bounds, bulk_positions, outcome_of, outcome_text}
-use Rattle.wg_outcomes.specs.Ranked.{IsProvenRanking}
-use Rattle.wg_outcomes.specs.Readings.{Readings}
-use Rattle.wg_outcomes.specs.declared.outcome.TheConstants.{BULK_ROUNDS}
+use Rattle.wg_outcomes.specs.{Ranked.IsProvenRanking, Readings.Readings, declared.outcome.TheConstants.BULK_ROUNDS}
 use Rattle.wg_outcomes.proofs.RankLemmas.{proven}
 
 -- ---- of two numbers at most one is less than the other

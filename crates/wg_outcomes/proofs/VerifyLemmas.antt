@@ -3,12 +3,9 @@ use Rattle.std.proofs.Common.{◌≡◌, ◌∙◌, ◌<◌, ◌≤◌, ◌+◌,
 use Rattle.std.proofs.lemmas.Bool.{cases_Bool, cases_lt, le-ltb, lt-ltb, ltb-false}
 use Rattle.std.specs.List.{range_with_len}
 use Rattle.wg_graph.specs.Digraph.{Digraph}
-use Rattle.wg_rank.specs.Rank.{lower, gap}
-use Rattle.wg_rank.specs.Intervals.{by_page}
+use Rattle.wg_rank.specs.{Rank.lower, Rank.gap, Intervals.by_page, declared.fault.CertFault.TheVariants.Falls}
 use Rattle.wg_rank.specs.Claims.{Claim, FallsFirst, Rises, weights_for}
-use Rattle.wg_rank.specs.declared.fault.CertFault.TheVariants.{Falls}
-use Rattle.wg_outcomes.specs.Answers.{Steps}
-use Rattle.wg_outcomes.specs.Judged.{Judged, refused}
+use Rattle.wg_outcomes.specs.{Answers.Steps, Judged.Judged, Judged.refused}
 use Rattle.wg_outcomes.specs.declared.status.Status.TheVariants.{BadCertificate}
 use Rattle.wg_outcomes.specs.Verified.{falls, first_fall, unless_falls, with_gap}
 

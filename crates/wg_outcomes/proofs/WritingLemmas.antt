@@ -2,14 +2,10 @@
 use Rattle.std.proofs.Common.{◌≡◌, ◌≢◌, inl, inr, ℕ, Bool, List, [], refl, sym, ap, subst, ◌∙◌, Option, Some, Result, Ok, Err, arith}
 use Rattle.std.specs.Result.{IfErr, IsErrAnd}
 use Rattle.std.specs.FinMap as map
-use Rattle.wg_outside.specs.Outside.{Files, Counts, created}
-use Rattle.wg_outside.proofs.FilesLemmas.{get-insert_same, get-insert_other}
-use Rattle.wg_outside.proofs.PutsLemmas.{is_that_err}
-use Rattle.wg_outside.specs.declared.output.Output.{Output}
-use Rattle.wg_outcomes.specs.Causes.{IncreasedAt}
-use Rattle.wg_outcomes.specs.Written.{IsStopped, IsStoppedAt, Touches}
-use Rattle.wg_outcomes.specs.declared.ending.Ending.{Ending}
-use Rattle.wg_outcomes.specs.declared.status.Status.{Status}
+use Rattle.wg_outside.specs.{Outside.Files, Outside.Counts, Outside.created, declared.output.Output.Output}
+use Rattle.wg_outside.proofs.{FilesLemmas.get-insert_same, FilesLemmas.get-insert_other, PutsLemmas.is_that_err}
+use Rattle.wg_outcomes.specs.{Causes.IncreasedAt, Written.IsStopped, Written.IsStoppedAt, Written.Touches}
+use Rattle.wg_outcomes.specs.{declared.ending.Ending.Ending, declared.status.Status.Status}
 use Rattle.wg_outcomes.specs.declared.status.Status.TheVariants.{WriteFault}
 use Rattle.wg_outcomes.proofs.Statuses.{by_stop}
 

@@ -1,25 +1,19 @@
 -- A certificate that was written, and the ranking that is printed after it.
 use Rattle.std.proofs.Common.{arith, ◌≡◌, ◌≢◌, ◌∙◌, ◌⊎◌, inl, inr, ℕ, Bool, List, length, refl, sym, ap, subst, Option, Some, Result, Ok, Err}
-use Rattle.std.specs.Bool.{IsTrue}
+use Rattle.std.specs.{Bool.IsTrue, Result.IfErr, Result.IsErrAnd}
 use Rattle.std.specs.FinMap as map
-use Rattle.std.specs.Result.{IfErr, IsErrAnd}
 use Rattle.std.proofs.Math.Seq.{take-length}
-use Rattle.wg_outside.specs.Outside.{Files, Increased}
-use Rattle.wg_outside.specs.Puts.{Puts}
+use Rattle.wg_outside.specs.{Outside.Files, Outside.Increased, Puts.Puts}
 use Rattle.wg_outside.specs.declared.output.Output.TheVariants.{Certificate, Out}
 use Rattle.wg_outside.proofs.PutsLemmas.{is_that_err}
 use Rattle.wg_greedy.specs.Held.{HoldsFront, HoldsLess}
 use Rattle.wg_rank.specs.Intervals.{Intervals}
-use Rattle.wg_outcomes.specs.Answers.{HasOutput, IsUnput, status_in}
-use Rattle.wg_outcomes.specs.Names.{certificate_to}
-use Rattle.wg_outcomes.specs.Readings.{Readings}
-use Rattle.wg_outcomes.specs.declared.ending.Ending.{Ending}
-use Rattle.wg_outcomes.specs.declared.status.Status.{Status}
+use Rattle.wg_outcomes.specs.{Answers.HasOutput, Answers.IsUnput, Answers.status_in, Names.certificate_to}
+use Rattle.wg_outcomes.specs.{Readings.Readings, declared.ending.Ending.Ending, declared.status.Status.Status}
 use Rattle.wg_outcomes.specs.declared.status.Status.TheVariants.{Memory, WriteFault}
 use Rattle.wg_outcomes.proofs.Statuses.{by_put, by_stop, unput_cause}
-use Rattle.wg_outcomes.specs.Performs.{CertifiesRanking, Outside}
+use Rattle.wg_outcomes.specs.{Performs.CertifiesRanking, Performs.Outside, Ranked.certificate_text, Ranked.text_for}
 use Rattle.wg_words.specs.declared.jobs.RankJob.{RankJob}
-use Rattle.wg_outcomes.specs.Ranked.{certificate_text, text_for}
 use Rattle.wg_outcomes.specs.Written.{CertificateAfter, IsStoppedAt, OthersStay, StayBeside, Touches}
 use Rattle.wg_outcomes.proofs.BuildLemmas.{put_stopped, stopped_cause, stopped_output}
 use Rattle.wg_outcomes.proofs.PerformsLemmas.{output_put, put_last}

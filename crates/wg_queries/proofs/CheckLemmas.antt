@@ -7,20 +7,13 @@ use Rattle.wg_params.specs.Parameters.{Parameters, IsWithinLimits}
 use Rattle.wg_grammar.specs.Archive.{Accepted}
 use Rattle.wg_offsets.specs.Places.{last_place}
 use Rattle.wg_words.specs.declared.jobs.Job.TheVariants.{Check}
-use Rattle.wg_outcomes.specs.Commands.{ok_line}
+use Rattle.wg_outcomes.specs.{Commands.ok_line, Names.file_of, Names.held_by, Promised.IsStopAt, Readings.Readings}
 use Rattle.wg_outcomes.specs.Judged.{Judged, accepted, with_lengths, offsets_then}
-use Rattle.wg_readings.specs.Loading.{JudgesFiles}
-use Rattle.wg_outcomes.specs.Names.{file_of, held_by}
-use Rattle.wg_readings.specs.Pairing.{files_then}
-use Rattle.wg_readings.specs.Passes.{IsGraphFile, graph_then}
-use Rattle.wg_outcomes.specs.Promised.{IsStopAt}
-use Rattle.wg_outcomes.specs.Performs.{Outside, Performs}
-use Rattle.wg_outcomes.specs.Readings.{Readings}
-use Rattle.wg_outcomes.specs.declared.ending.Ending.{Ending}
+use Rattle.wg_readings.specs.{Loading.JudgesFiles, Pairing.files_then, Passes.IsGraphFile, Passes.graph_then}
+use Rattle.wg_outcomes.specs.{Performs.Outside, Performs.Performs, declared.ending.Ending.Ending}
 use Rattle.wg_outcomes.specs.declared.status.Input.{Input}
 use Rattle.wg_outcomes.specs.declared.status.Input.TheVariants.{Properties, Graph, Offsets}
-use Rattle.wg_readings.proofs.JobSteps.{ComesTo, ends}
-use Rattle.wg_readings.proofs.PassLemmas.{graph_goes}
+use Rattle.wg_readings.proofs.{JobSteps.ComesTo, JobSteps.ends, PassLemmas.graph_goes}
 
 -- what comes behind the parameters
 abbrev pub checks : Parameters → Readings → (Input → Option (List ℕ)) → Judged

@@ -1,41 +1,30 @@
 -- A pass over a graph file that prints a text, and a job that validates the file before.
 use Rattle.std.proofs.Common.{◌≡◌, ◌⊎◌, inl, inr, ℕ, ◌<◌, ◌≤◌, Bool, List, [], ◌∷◌, ◌++◌, length, take, refl, sym, ◌∙◌, ap, subst, append_assoc, Some, Result, Ok, Err, arith, ◌≢◌, true, false, is_some, Option}
-use Rattle.std.specs.Bool.{IsTrue}
+use Rattle.std.specs.{Bool.IsTrue, Result.IfErr, Result.IsErrAnd}
 use Rattle.std.specs.FinMap as map
-use Rattle.std.specs.Result.{IfErr, IsErrAnd}
 use Rattle.std.proofs.lemmas.List.{append-nil, length-append, take_at}
-use Rattle.wg_outside.specs.Outside.{Files, Counts, Increased, NonDecreasing}
+use Rattle.wg_outside.specs.{Outside.Files, Outside.Counts, Outside.Increased, Outside.NonDecreasing, Puts.Puts}
 use Rattle.wg_lines.specs.Printing.{HasPrinted, HasPrintedLess}
-use Rattle.wg_outside.specs.Puts.{Puts}
-use Rattle.wg_outside.specs.declared.output.Output.TheVariants.{Out}
-use Rattle.wg_outside.proofs.FilesLemmas.{none_falls-trans}
+use Rattle.wg_outside.specs.{declared.output.Output.TheVariants.Out, declared.output.Output.Output}
+use Rattle.wg_outside.proofs.{FilesLemmas.none_falls-trans, PutsLemmas.is_that_err}
 use Rattle.wg_lines.proofs.PrintLemmas.{puts_in_the_end}
-use Rattle.wg_outside.proofs.PutsLemmas.{is_that_err}
 use Rattle.wg_params.specs.Parameters.{Parameters, IsWithinLimits}
-use Rattle.wg_grammar.specs.Archive.{Accepted}
-use Rattle.wg_grammar.specs.Record.{Whole}
+use Rattle.wg_grammar.specs.{Archive.Accepted, Record.Whole}
 use Rattle.wg_stream.specs.Reading.{Reading, IsInStep, IsJudged}
 use Rattle.wg_outcomes.specs.Answers.{IsHindrance, IsUnput, status_in, Answers, HasOutput, without}
-use Rattle.wg_outcomes.specs.Names.{file_of, no_outputs, held_by}
-use Rattle.wg_readings.specs.Passes.{Advances, accepted_of, graph_then}
-use Rattle.wg_outcomes.specs.Promised.{IsStopAt, ArePromised, promised_in}
+use Rattle.wg_outcomes.specs.{Names.file_of, Names.no_outputs, Names.held_by, declared.ending.Ending.Ending}
+use Rattle.wg_readings.specs.{Passes.Advances, Passes.accepted_of, Passes.graph_then, Loading.JudgesGraph}
+use Rattle.wg_outcomes.specs.{Promised.IsStopAt, Promised.ArePromised, Promised.promised_in, Reached.Reaches}
 use Rattle.wg_outcomes.specs.Performs.{OutCounts, Outside, outside, Performs, judged_on}
 use Rattle.wg_queries.specs.Printed.{PrintsGraph, PutsUpTo}
-use Rattle.wg_outcomes.specs.declared.ending.Ending.{Ending}
-use Rattle.wg_outcomes.specs.declared.status.Input.TheVariants.{Graph}
+use Rattle.wg_outcomes.specs.{declared.status.Input.TheVariants.Graph, Causes.HasCause, declared.status.Input.Input}
 use Rattle.wg_outcomes.specs.declared.status.Status.TheVariants.{Memory, WriteFault}
-use Rattle.wg_readings.proofs.JudgeLemmas.{read_hindered}
+use Rattle.wg_readings.proofs.{JudgeLemmas.read_hindered, JobSteps.ComesTo, JobSteps.Hold, JobSteps.reaches}
 use Rattle.wg_outcomes.proofs.Statuses.{IsOwn, any_faults, bad_own, no_write, own_caused, unput_cause, unput_hinders, cause_named}
 use Rattle.wg_readings.proofs.UnderWay.{IsUnderWay, all_read, ends_caused, first_read, cause_later}
-use Rattle.wg_outside.specs.declared.output.Output.{Output}
 use Rattle.wg_words.specs.declared.jobs.Job.{Job}
-use Rattle.wg_outcomes.specs.Reached.{Reaches}
-use Rattle.wg_outcomes.specs.Causes.{HasCause}
 use Rattle.wg_outcomes.specs.Judged.{Judged, accepted, output_of, status_of}
-use Rattle.wg_readings.specs.Loading.{JudgesGraph}
 use Rattle.wg_outcomes.specs.JobFiles.{input_name, output_name, prints_in_parts, prints_while_reading, writes_files}
-use Rattle.wg_outcomes.specs.declared.status.Input.{Input}
-use Rattle.wg_readings.proofs.JobSteps.{ComesTo, Hold, reaches}
 use Rattle.wg_outcomes.proofs.PerformsLemmas.{files_same, nothing_whole}
 use Rattle.wg_readings.proofs.JobPasses.{StopsOrUnput, graph_known, pass_possible, pass_read}
 

@@ -5,22 +5,16 @@ use Rattle.wg_lines.proofs.PrintLemmas.{printed_more, less_after}
 use Rattle.wg_outside.specs.Puts.{joined}
 use Rattle.wg_arcs.specs.Text.{lines_from, page_lines}
 use Rattle.wg_ascii.specs.Text.{list_line, nodes_line}
-use Rattle.wg_grammar.specs.Archive.{lists_of, places_of}
-use Rattle.wg_grammar.specs.Record.{Whole}
+use Rattle.wg_grammar.specs.{Archive.lists_of, Archive.places_of, Record.Whole}
 use Rattle.wg_stream.proofs.PrefixLemmas.{length-lists, lists_more, places_more}
-use Rattle.wg_outcomes.specs.Commands.{judged, number_line, number_lines}
-use Rattle.wg_outcomes.specs.Judged.{Judged, accepted}
-use Rattle.wg_readings.specs.Loading.{params_then}
+use Rattle.wg_outcomes.specs.{Commands.judged, Commands.number_line, Commands.number_lines, Names.file_of}
+use Rattle.wg_outcomes.specs.{Judged.Judged, Judged.accepted, Readings.Readings, declared.status.Input.Input}
+use Rattle.wg_readings.specs.{Loading.params_then, Passes.accepted_of, Passes.graph_then}
 use Rattle.wg_outcomes.specs.JobFiles.{input_name, prints_while_reading, writes_files}
-use Rattle.wg_outcomes.specs.Names.{file_of}
-use Rattle.wg_outcomes.specs.Readings.{Readings}
-use Rattle.wg_outcomes.specs.declared.status.Input.{Input}
 use Rattle.wg_outcomes.specs.declared.status.Input.TheVariants as input
 use Rattle.wg_params.specs.Parameters.{Parameters}
-use Rattle.wg_readings.specs.Passes.{accepted_of, graph_then}
 use Rattle.wg_queries.specs.Printed.{head_of, job_of, listed, piece_of}
-use Rattle.wg_queries.specs.declared.printing.Listing.{Listing}
-use Rattle.wg_queries.specs.declared.printing.Listing.TheVariants.{Arcs}
+use Rattle.wg_queries.specs.{declared.printing.Listing.Listing, declared.printing.Listing.TheVariants.Arcs}
 use Rattle.wg_queries.proofs.PrintedJobs.{Grows}
 
 -- ---- a line for each

@@ -1,29 +1,21 @@
 -- How each step of `rank` leads on or ends it.
 use Rattle.std.proofs.Common.{◌≡◌, ◌∙◌, ℕ, Bool, nat_lt, List, [], ◌∷◌, ◌++◌, length, Option, Some, None, Result, Ok, Err, refl, sym, ap, subst, arith}
-use Rattle.std.specs.Bool.{IsTrue}
-use Rattle.std.specs.Result.{IfErr}
-use Rattle.wg_outside.specs.Outside.{Files, Counts, Increased}
-use Rattle.wg_outside.specs.Puts.{Puts}
+use Rattle.std.specs.{Bool.IsTrue, Result.IfErr}
+use Rattle.wg_outside.specs.{Outside.Files, Outside.Counts, Outside.Increased, Puts.Puts}
 use Rattle.wg_outside.specs.declared.output.Output.TheVariants.{Out}
 use Rattle.wg_params.specs.Parameters.{Parameters}
 use Rattle.wg_graph.specs.Digraph.{Digraph}
-use Rattle.wg_rank.specs.Intervals.{Intervals}
-use Rattle.wg_rank.specs.Weights.{weights_of}
-use Rattle.wg_words.specs.declared.jobs.RankJob.{RankJob}
-use Rattle.wg_words.specs.declared.jobs.Job.TheVariants.{Rank}
-use Rattle.wg_outcomes.specs.Answers.{IsUnput, status_in}
+use Rattle.wg_rank.specs.{Intervals.Intervals, Weights.weights_of, Rounds.bounds_after}
+use Rattle.wg_words.specs.{declared.jobs.RankJob.RankJob, declared.jobs.Job.TheVariants.Rank}
+use Rattle.wg_outcomes.specs.{Answers.IsUnput, Answers.status_in, Promised.promised_in, Readings.Readings}
 use Rattle.wg_outcomes.specs.Judged.{Judged, a_certificate, files_of, output_of, status_of}
 use Rattle.wg_readings.specs.Loading.{LoadsGraph, LoadsParams, LoadsWeights}
 use Rattle.wg_outcomes.specs.Names.{certificate_outputs, name_of_input, name_of_output, record_files, weights_file, weights_named}
-use Rattle.wg_outcomes.specs.Promised.{promised_in}
-use Rattle.wg_outcomes.specs.Readings.{Readings}
-use Rattle.wg_outcomes.specs.declared.ending.Ending.{Ending}
-use Rattle.wg_outcomes.specs.declared.status.Input.{Input}
+use Rattle.wg_outcomes.specs.{declared.ending.Ending.Ending, declared.status.Input.Input}
 use Rattle.wg_outcomes.specs.declared.status.Input.TheVariants.{Properties, Graph, Weights}
 use Rattle.wg_outcomes.specs.declared.status.Status.TheVariants.{Memory, WriteFault}
 use Rattle.wg_outcomes.specs.Commands.{ranks, with_certificate}
 use Rattle.wg_outcomes.specs.Performs.{CertifiesRanking, OutCounts, Outside, Performs, Produces, outside}
-use Rattle.wg_rank.specs.Rounds.{bounds_after}
 use Rattle.wg_outcomes.specs.Ranked.{bounds_for, certificate_text, text_for}
 use Rattle.wg_outcomes.proofs.BuildLemmas.{produced}
 use Rattle.wg_readings.proofs.JobSteps.{ComesTo, ends_without, judges_rest, prints}

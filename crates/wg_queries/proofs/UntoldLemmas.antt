@@ -1,31 +1,22 @@
 -- What `rank` and `verify` promise of every depot.
 use Rattle.std.proofs.Common.{◌≡◌, ◌≢◌, ◌⊎◌, ◌≤◌, ◌∙◌, inl, inr, ℕ, Bool, List, ◌++◌, length, Option, Some, None, Result, Err, sym, ap, arith}
 use Rattle.std.specs.Result.{IfErr, IsErrAnd}
-use Rattle.wg_outside.specs.Outside.{Counts, Files, NonDecreasing}
-use Rattle.wg_outside.specs.Puts.{Puts}
+use Rattle.wg_outside.specs.{Outside.Counts, Outside.Files, Outside.NonDecreasing, Puts.Puts}
 use Rattle.wg_outside.specs.declared.depot.Depot as depot
 use Rattle.wg_outside.specs.declared.sink.Sink as sink
 use Rattle.wg_outside.proofs.PutsLemmas.{is_that_err}
 use Rattle.wg_params.specs.declared.limits.TheConstants.{MOST_DAMPING, MOST_PAGES, MOST_ROUNDS}
 use Rattle.wg_graph.specs.Digraph.{Digraph, IsGraph}
-use Rattle.wg_rank.specs.Claims.{Claim}
-use Rattle.wg_rank.specs.Intervals.{Intervals}
-use Rattle.wg_rank.specs.Weights.{AreWeights, weights_of}
-use Rattle.wg_outcomes.specs.Answers.{IsUnput, status_in}
-use Rattle.wg_outcomes.specs.Causes.{IncreasedAt}
-use Rattle.wg_outcomes.specs.Names.{IsOfInput}
-use Rattle.wg_outcomes.specs.Promised.{IsBadFile}
+use Rattle.wg_rank.specs.{Claims.Claim, Intervals.Intervals, Weights.AreWeights, Weights.weights_of}
+use Rattle.wg_outcomes.specs.{Answers.IsUnput, Answers.status_in, Causes.IncreasedAt, Names.IsOfInput}
+use Rattle.wg_outcomes.specs.{Promised.IsBadFile, Ranked.bounds_for, Ranked.text_for, Readings.Readings}
 use Rattle.wg_words.specs.declared.jobs.RankJob.{RankJob}
-use Rattle.wg_outcomes.specs.Ranked.{bounds_for, text_for}
-use Rattle.wg_outcomes.specs.Readings.{Readings}
 use Rattle.wg_outcomes.specs.Untold.{PrintsSomeGap, PrintsSomeRanking, RanksAnywhere}
-use Rattle.wg_outcomes.specs.Verified.{Leaves, verified_line}
-use Rattle.wg_outcomes.specs.declared.ending.Ending.{Ending}
+use Rattle.wg_outcomes.specs.{Verified.Leaves, Verified.verified_line, declared.ending.Ending.Ending}
 use Rattle.wg_outcomes.specs.declared.status.Input.{Input}
 use Rattle.wg_outcomes.specs.declared.status.Input.TheVariants.{Certificate, Graph, Weights}
 use Rattle.wg_outcomes.specs.declared.status.Status.TheVariants.{Done, Memory}
-use Rattle.wg_outcomes.proofs.RankLemmas.{proven}
-use Rattle.wg_outcomes.proofs.Statuses.{never_done}
+use Rattle.wg_outcomes.proofs.{RankLemmas.proven, Statuses.never_done}
 use Rattle.wg_readings.specs.Loading.{IsBadCertificate, IsBadWeights, LoadsParams}
 
 -- ---- what ended early was not done

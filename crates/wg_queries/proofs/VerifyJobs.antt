@@ -1,30 +1,23 @@
 -- How each step of `verify` leads on or ends it.
 use Rattle.std.proofs.Common.{◌≡◌, ◌⊎◌, ℕ, Bool, List, [], ◌∷◌, ◌++◌, is_some, Option, Result, Ok, Err, refl, arith}
-use Rattle.std.specs.Bool.{IsTrue}
-use Rattle.std.specs.Result.{IfErr}
-use Rattle.wg_outside.specs.Outside.{Files, Counts, Increased}
-use Rattle.wg_outside.specs.Puts.{Puts}
+use Rattle.std.specs.{Bool.IsTrue, Result.IfErr}
+use Rattle.wg_outside.specs.{Outside.Files, Outside.Counts, Outside.Increased, Puts.Puts}
 use Rattle.wg_outside.specs.declared.output.Output.TheVariants.{Out}
 use Rattle.wg_params.specs.Parameters.{Parameters}
 use Rattle.wg_graph.specs.Digraph.{Digraph}
 use Rattle.wg_rank.specs.Claims.{Claim}
-use Rattle.wg_words.specs.declared.jobs.VerifyJob.{VerifyJob}
-use Rattle.wg_words.specs.declared.jobs.Job.TheVariants.{Verify}
-use Rattle.wg_outcomes.specs.Answers.{IsUnput, Steps, status_in}
-use Rattle.wg_outcomes.specs.Judged.{Judged, accepted, claim_then}
+use Rattle.wg_words.specs.{declared.jobs.VerifyJob.VerifyJob, declared.jobs.Job.TheVariants.Verify}
+use Rattle.wg_outcomes.specs.{Answers.IsUnput, Answers.Steps, Answers.status_in, Promised.promised_in}
+use Rattle.wg_outcomes.specs.{Judged.Judged, Judged.accepted, Judged.claim_then, Readings.Readings}
 use Rattle.wg_readings.specs.Loading.{IsBadCertificate, LoadsCertificate, LoadsGraph, LoadsParams, LoadsWeights}
 use Rattle.wg_outcomes.specs.Names.{certificate_file, certificate_named, name_of_input, record_files, weights_file, weights_named}
-use Rattle.wg_outcomes.specs.Promised.{promised_in}
-use Rattle.wg_outcomes.specs.Readings.{Readings}
-use Rattle.wg_outcomes.specs.declared.ending.Ending.{Ending}
-use Rattle.wg_outcomes.specs.declared.status.Input.{Input}
+use Rattle.wg_outcomes.specs.{declared.ending.Ending.Ending, declared.status.Input.Input}
 use Rattle.wg_outcomes.specs.declared.status.Input.TheVariants.{Properties, Graph, Weights, Certificate}
 use Rattle.wg_outcomes.specs.declared.status.Status.TheVariants.{Memory, WriteFault}
 use Rattle.wg_outcomes.specs.Performs.{OutCounts, Outside, Performs, outside}
 use Rattle.wg_outcomes.specs.Verified.{verified_line, with_gap}
-use Rattle.wg_readings.proofs.JobSteps.{ComesTo, prints}
+use Rattle.wg_readings.proofs.{JobSteps.ComesTo, JobSteps.prints, GraphJobs.IsOfGraph, GraphJobs.behind_graph}
 use Rattle.wg_readings.proofs.JobSteps.{certificate_refused, comes_on_named, ends_named, refuses_own}
-use Rattle.wg_readings.proofs.GraphJobs.{IsOfGraph, behind_graph}
 use Rattle.wg_readings.proofs.GraphJobs as graphs
 
 module _ (base certificate : List ℕ) where

@@ -1,19 +1,14 @@
 -- Classes and weights of pages, by the texts that give them.
 use Rattle.std.proofs.Common.{◌≡◌, inl, ℕ, ◌+◌, ◌<◌, length, ◌∙◌, nat_eq, nat_lt, Bool, true, ◌&&◌, List, [], ◌∷◌, sym, ap, subst, Result, Ok, Err, arith}
 use Rattle.std.specs.List.{All}
-use Rattle.std.proofs.lemmas.Bool.{lt-ltb}
-use Rattle.std.proofs.lemmas.List.Elements.{All-head, All-tail}
+use Rattle.std.proofs.{lemmas.Bool.lt-ltb, lemmas.List.Elements.All-head, lemmas.List.Elements.All-tail}
 use Rattle.wg_graph.specs.Ascending.{Below}
-use Rattle.wg_arcs.specs.Numbers.{AreRead, numbers_of}
-use Rattle.wg_arcs.specs.declared.numbers_fault.NumbersError.{NumbersError}
+use Rattle.wg_arcs.specs.{Numbers.AreRead, Numbers.numbers_of, declared.numbers_fault.NumbersError.NumbersError}
 use Rattle.wg_arcs.specs.declared.numbers_fault.NumbersError.TheVariants as error
 use Rattle.wg_arcs.specs.declared.numbers_fault.NumbersFault.{NumbersFault}
-use Rattle.wg_rank.specs.Sum.{sum_below}
-use Rattle.wg_rank.specs.Intervals.{by_page}
-use Rattle.wg_rank.specs.declared.limits.TheConstants.{MOST_WEIGHT}
-use Rattle.wg_outcomes.specs.Answers.{Answers, IsHindrance}
+use Rattle.wg_rank.specs.{Sum.sum_below, Intervals.by_page, declared.limits.TheConstants.MOST_WEIGHT}
+use Rattle.wg_outcomes.specs.{Answers.Answers, Answers.IsHindrance, declared.status.Status.Status}
 use Rattle.wg_outcomes.specs.Judged.{Judged, status_of, unless_bad_map, unless_bad_weights, unless_zero, with_map, with_weights}
-use Rattle.wg_outcomes.specs.declared.status.Status.{Status}
 use Rattle.wg_outcomes.specs.declared.status.Status.TheVariants.{BadMap, BadWeights, Memory}
 use Rattle.wg_outcomes.specs.declared.status.WeightsFault.TheVariants as weights
 

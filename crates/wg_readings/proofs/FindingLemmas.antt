@@ -2,22 +2,15 @@
 use Rattle.std.proofs.Common.{◌≡◌, ◌≢◌, ℕ, ◌<◌, Bool, true, false, List, [], length, refl, sym, ◌∙◌, ap, subst, option_and_then, Option, Some, None, Err, arith}
 use Rattle.std.specs.Bool.{IsTrue}
 use Rattle.std.specs.FinMap as map
-use Rattle.wg_outside.specs.Outside.{Files, Counts}
-use Rattle.wg_outside.specs.declared.limits.TheConstants.{MOST_BYTES}
+use Rattle.wg_outside.specs.{Outside.Files, Outside.Counts, declared.limits.TheConstants.MOST_BYTES}
 use Rattle.wg_outside.specs.declared.whole.LoadError.{LoadError}
 use Rattle.wg_outside.specs.declared.whole.LoadError.TheVariants as load
 use Rattle.wg_source.specs.Held.{HeldBytes, IsHeldOf}
 use Rattle.wg_source.specs.Stepping.{Steps as StepsOn, HasCause as HasReadCause}
-use Rattle.wg_outcomes.specs.Answers.{Answers}
-use Rattle.wg_outcomes.specs.Causes.{HasCause}
-use Rattle.wg_outcomes.specs.Judged.{Judged, with_file}
-use Rattle.wg_outcomes.specs.Names.{IsOfInput, held_by, no_outputs}
-use Rattle.wg_outcomes.specs.declared.ending.Ending.{Ending}
-use Rattle.wg_outcomes.specs.declared.status.Input.{Input}
-use Rattle.wg_outcomes.specs.declared.status.Status.{Status}
-use Rattle.wg_readings.specs.Finding.{IsOpenOn}
-use Rattle.wg_readings.specs.Loading.{Loads}
-use Rattle.wg_readings.specs.Pairing.{status_at}
+use Rattle.wg_outcomes.specs.{Answers.Answers, Causes.HasCause, Judged.Judged, Judged.with_file}
+use Rattle.wg_outcomes.specs.{Names.IsOfInput, Names.held_by, Names.no_outputs, declared.ending.Ending.Ending}
+use Rattle.wg_outcomes.specs.{declared.status.Input.Input, declared.status.Status.Status}
+use Rattle.wg_readings.specs.{Finding.IsOpenOn, Loading.Loads, Pairing.status_at}
 
 -- ---- an error of an input
 

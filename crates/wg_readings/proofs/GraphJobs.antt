@@ -4,15 +4,10 @@ use Rattle.wg_outside.specs.Outside.{Files, Counts}
 use Rattle.wg_params.specs.Parameters.{Parameters}
 use Rattle.wg_graph.specs.Digraph.{Digraph}
 use Rattle.wg_words.specs.declared.jobs.Job.{Job}
-use Rattle.wg_outcomes.specs.Commands.{judged}
-use Rattle.wg_outcomes.specs.Judged.{Judged, weights_then}
+use Rattle.wg_outcomes.specs.{Commands.judged, Judged.Judged, Judged.weights_then, Names.file_of, Names.weights_named}
 use Rattle.wg_readings.specs.Loading.{LoadsGraph, LoadsParams, digraph_then, params_then, IsBadWeights, LoadsWeights}
-use Rattle.wg_outcomes.specs.JobFiles.{input_name, has_input}
-use Rattle.wg_outcomes.specs.Names.{file_of, weights_named}
-use Rattle.wg_outcomes.specs.Performs.{Outside, Performs}
-use Rattle.wg_outcomes.specs.Readings.{Readings}
-use Rattle.wg_outcomes.specs.declared.ending.Ending.{Ending}
-use Rattle.wg_outcomes.specs.declared.status.Input.{Input}
+use Rattle.wg_outcomes.specs.{JobFiles.input_name, JobFiles.has_input, Performs.Outside, Performs.Performs}
+use Rattle.wg_outcomes.specs.{Readings.Readings, declared.ending.Ending.Ending, declared.status.Input.Input}
 use Rattle.wg_outcomes.specs.declared.status.Input.TheVariants.{Properties, Graph, Weights}
 use Rattle.wg_readings.proofs.JobSteps.{ComesTo, ends_reading, loaded, unloaded}
 use Rattle.std.specs.Bool.{IsTrue}

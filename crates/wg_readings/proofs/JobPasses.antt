@@ -1,29 +1,19 @@
 -- A job that validates a graph file in pieces, and reads it again to print a text of its graph.
 use Rattle.std.proofs.Common.{◌≡◌, ◌≢◌, ◌⊎◌, ◌<◌, inl, inr, ℕ, length, Bool, List, ◌++◌, take, sym, ◌∙◌, subst, Option, Result, Ok, Err, arith}
-use Rattle.std.specs.Bool.{IsTrue}
-use Rattle.std.specs.Result.{IfErr}
-use Rattle.wg_outside.specs.Outside.{Files, Counts}
-use Rattle.wg_outside.specs.declared.output.Output.{Output}
+use Rattle.std.specs.{Bool.IsTrue, Result.IfErr}
+use Rattle.wg_outside.specs.{Outside.Files, Outside.Counts, declared.output.Output.Output}
 use Rattle.wg_outside.specs.declared.output.Output.TheVariants.{Out}
 use Rattle.wg_params.specs.Parameters.{Parameters}
 use Rattle.wg_grammar.specs.Archive.{Accepted}
 use Rattle.wg_words.specs.declared.jobs.Job.{Job}
-use Rattle.wg_outcomes.specs.Answers.{HasOutput, IsHindrance, IsUnput, status_in}
-use Rattle.wg_outcomes.specs.Judged.{Judged}
-use Rattle.wg_readings.specs.Loading.{JudgesGraph}
-use Rattle.wg_outcomes.specs.Promised.{ArePromised, IsStopAt}
-use Rattle.wg_outcomes.specs.JobFiles.{can_end, has_input, input_name}
-use Rattle.wg_outcomes.specs.Names.{file_of, held_by}
-use Rattle.wg_readings.specs.Passes.{IsGraphFile, graph_then}
-use Rattle.wg_outcomes.specs.Performs.{Outside, judged_on}
-use Rattle.wg_outcomes.specs.Readings.{Readings}
-use Rattle.wg_outcomes.specs.declared.ending.Ending.{Ending}
-use Rattle.wg_outcomes.specs.declared.status.Input.{Input}
-use Rattle.wg_outcomes.specs.declared.status.Input.TheVariants.{Graph}
-use Rattle.wg_outcomes.specs.declared.status.Status.{Status}
+use Rattle.wg_outcomes.specs.{Answers.HasOutput, Answers.IsHindrance, Answers.IsUnput, Answers.status_in, Judged.Judged}
+use Rattle.wg_readings.specs.{Loading.JudgesGraph, Passes.IsGraphFile, Passes.graph_then}
+use Rattle.wg_outcomes.specs.{Promised.ArePromised, Promised.IsStopAt, Names.file_of, Names.held_by, Readings.Readings}
+use Rattle.wg_outcomes.specs.{JobFiles.can_end, JobFiles.has_input, JobFiles.input_name, declared.ending.Ending.Ending}
+use Rattle.wg_outcomes.specs.{Performs.Outside, Performs.judged_on, declared.status.Input.Input}
+use Rattle.wg_outcomes.specs.{declared.status.Input.TheVariants.Graph, declared.status.Status.Status}
 use Rattle.wg_outcomes.specs.declared.status.Status.TheVariants.{ReadFault, WriteFault}
-use Rattle.wg_readings.proofs.JobSteps.{ComesTo, judges_here}
-use Rattle.wg_readings.proofs.PassLemmas.{graph_goes}
+use Rattle.wg_readings.proofs.{JobSteps.ComesTo, JobSteps.judges_here, PassLemmas.graph_goes}
 use Rattle.wg_outcomes.proofs.Statuses.{IsRead, bad_unread, by_stop, own_read}
 
 -- a prefix was put out, that lacks something if the output itself failed

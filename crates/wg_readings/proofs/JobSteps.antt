@@ -1,36 +1,27 @@
 -- How far a job on an archive has come, and how each step ends it or leads on.
 use Rattle.std.proofs.Common.{◌≡◌, ◌⊎◌, inl, inr, ℕ, Bool, false, List, [], ◌∷◌, refl, sym, ◌∙◌, ap, subst, option_and_then, is_some, Option, None, Result, Ok, Err, arith}
-use Rattle.std.specs.Bool.{IsTrue}
+use Rattle.std.specs.{Bool.IsTrue, Result.IfErr, Result.IsErrAnd}
 use Rattle.std.specs.FinMap as map
-use Rattle.std.specs.Result.{IfErr, IsErrAnd}
-use Rattle.wg_outside.specs.Outside.{Files, Counts, NonDecreasing, Increased}
-use Rattle.wg_outside.specs.Puts.{Puts}
+use Rattle.wg_outside.specs.{Outside.Files, Outside.Counts, Outside.NonDecreasing, Outside.Increased, Puts.Puts}
 use Rattle.wg_outside.specs.declared.depot.Depot as depot
 use Rattle.wg_outside.specs.declared.sink.Sink as sink
 use Rattle.wg_outside.specs.declared.output.Output.TheVariants.{Out}
-use Rattle.wg_outside.proofs.FilesLemmas.{none_falls-trans}
-use Rattle.wg_outside.proofs.PutsLemmas.{is_that_err}
-use Rattle.wg_params.specs.Parameters.{Parameters}
+use Rattle.wg_outside.proofs.{FilesLemmas.none_falls-trans, PutsLemmas.is_that_err}
+use Rattle.wg_params.specs.{Parameters.Parameters, declared.layout.Layout.Layout}
 use Rattle.wg_properties.specs.declared.fault.PropFault.{PropFault}
 use Rattle.wg_graph.specs.Digraph.{Digraph}
 use Rattle.wg_grammar.specs.declared.fault.ArchiveFault.TheVariants as archive
 use Rattle.wg_words.specs.declared.jobs.Job.{Job}
-use Rattle.wg_params.specs.declared.layout.Layout.{Layout}
-use Rattle.wg_outcomes.specs.Reached.{Reaches}
+use Rattle.wg_outcomes.specs.{Reached.Reaches, Causes.HasCause, Commands.builds, Commands.judged, Readings.Readings}
 use Rattle.wg_outcomes.specs.Answers.{Answers, IsUnput, Steps, status_in, without}
-use Rattle.wg_outcomes.specs.Causes.{HasCause}
-use Rattle.wg_outcomes.specs.Commands.{builds, judged}
-use Rattle.wg_outcomes.specs.Judged.{Judged, accepted, refused}
+use Rattle.wg_outcomes.specs.{Judged.Judged, Judged.accepted, Judged.refused, declared.ending.Ending.Ending}
 use Rattle.wg_readings.specs.Loading.{EndsAt, IsPropertiesFile, LoadsParams, Reads, params_then, IsBadCertificate, IsBadMap, IsBadWeights, ReadsNamed}
 use Rattle.wg_outcomes.specs.JobFiles.{asks_for, can_end, has_input, input_name, output_name, prints_in_parts, writes_files}
 use Rattle.wg_outcomes.specs.Names.{archive_named, file_of, held_by, no_outputs, IsOfInput}
 use Rattle.wg_outcomes.specs.Promised.{ArePromised, IsBadFile, IsPromised, promised_in}
 use Rattle.wg_outcomes.specs.Performs.{BuildsArchive, Does, DoesOrEnds, OutCounts, Outside, Performs, judged_on, outside}
-use Rattle.wg_outcomes.specs.Readings.{Readings}
-use Rattle.wg_outcomes.specs.declared.ending.Ending.{Ending}
-use Rattle.wg_outcomes.specs.declared.status.Input.{Input}
+use Rattle.wg_outcomes.specs.{declared.status.Input.Input, declared.status.Status.Status}
 use Rattle.wg_outcomes.specs.declared.status.Input.TheVariants as input
-use Rattle.wg_outcomes.specs.declared.status.Status.{Status}
 use Rattle.wg_outcomes.specs.declared.status.Status.TheVariants.{Memory, WriteFault, Missing, BadProperties, NoPage}
 use Rattle.wg_outcomes.proofs.BuildLemmas.{written}
 use Rattle.wg_outcomes.proofs.PerformsLemmas.{printed_by, stopped, unread}

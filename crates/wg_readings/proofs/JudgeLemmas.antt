@@ -1,28 +1,20 @@
 -- How the validation of an archive's files ends.
-use Rattle.wg_readings.proofs.PassLemmas.{graph_goes}
-use Rattle.wg_readings.proofs.ReadingsLaws.{the_readings}
+use Rattle.wg_readings.proofs.{PassLemmas.graph_goes, ReadingsLaws.the_readings}
 use Rattle.wg_outcomes.proofs.PerformsLemmas.{hindered}
-use Rattle.wg_outcomes.specs.Judged.{Judged, with_lengths, offsets_then}
-use Rattle.wg_outcomes.specs.declared.status.Status.TheVariants.{Memory}
-use Rattle.wg_grammar.specs.Archive.{Accepted}
+use Rattle.wg_outcomes.specs.{Judged.Judged, Judged.with_lengths, Judged.offsets_then, Causes.HasCause}
+use Rattle.wg_outcomes.specs.{declared.status.Status.TheVariants.Memory, Names.file_of, Names.held_by, Names.no_outputs}
+use Rattle.wg_grammar.specs.{Archive.Accepted, Record.Whole}
 use Rattle.std.proofs.Common.{◌≡◌, ◌∙◌, inl, inr, ℕ, Bool, List, Option, Result, Ok, Err, refl, sym, subst, arith}
-use Rattle.std.specs.Bool.{IsTrue}
-use Rattle.std.specs.Result.{IfErr}
+use Rattle.std.specs.{Bool.IsTrue, Result.IfErr}
 use Rattle.wg_outside.specs.Outside.{Files, Counts, NonDecreasing}
 use Rattle.wg_outside.proofs.FilesLemmas.{none_falls-refl, none_falls-trans}
 use Rattle.wg_params.specs.Parameters.{Parameters, IsWithinLimits}
-use Rattle.wg_grammar.specs.Record.{Whole}
 use Rattle.wg_offsets.specs.Places.{last_place}
 use Rattle.wg_stream.specs.Reading.{Reading}
-use Rattle.wg_outcomes.specs.Answers.{IsHindrance, Steps, status_in}
-use Rattle.wg_outcomes.specs.Causes.{HasCause}
+use Rattle.wg_outcomes.specs.{Answers.IsHindrance, Answers.Steps, Answers.status_in, Promised.IsStopAt}
 use Rattle.wg_readings.specs.Loading.{JudgesFiles, JudgesGraph, JudgesOffsets, Reads, lengths_then}
-use Rattle.wg_outcomes.specs.Names.{file_of, held_by, no_outputs}
 use Rattle.wg_readings.specs.Passes.{Advances, IsGraphFile, graph_then}
-use Rattle.wg_outcomes.specs.Promised.{IsStopAt}
-use Rattle.wg_outcomes.specs.Readings.{Readings}
-use Rattle.wg_outcomes.specs.declared.ending.Ending.{Ending}
-use Rattle.wg_outcomes.specs.declared.status.Input.{Input}
+use Rattle.wg_outcomes.specs.{Readings.Readings, declared.ending.Ending.Ending, declared.status.Input.Input}
 use Rattle.wg_outcomes.specs.declared.status.Input.TheVariants as input
 use Rattle.wg_readings.proofs.UnderWay.{IsUnderWay, ends_caused, ends_told}
 

@@ -1,22 +1,15 @@
 -- A file that is read whole, and then validated.
 use Rattle.std.proofs.Common.{◌≡◌, ◌∙◌, ◌⊎◌, inl, inr, ℕ, Bool, List, Option, Result, Ok, Err, sym, ap, subst, arith}
-use Rattle.std.specs.Bool.{IsTrue}
-use Rattle.std.specs.Result.{IfErr, IfOk}
-use Rattle.wg_outside.specs.Outside.{Files, Counts}
-use Rattle.wg_outside.specs.declared.output.Output.{Output}
+use Rattle.std.specs.{Bool.IsTrue, Result.IfErr, Result.IfOk}
+use Rattle.wg_outside.specs.{Outside.Files, Outside.Counts, declared.output.Output.Output}
 use Rattle.wg_params.specs.Parameters.{Parameters}
 use Rattle.wg_graph.specs.Digraph.{Digraph}
-use Rattle.wg_outcomes.specs.Answers.{Steps, status_in}
-use Rattle.wg_outcomes.specs.Causes.{HasCause}
-use Rattle.wg_outcomes.specs.Judged.{Judged, with_digraph, with_file}
+use Rattle.wg_outcomes.specs.{Answers.Steps, Answers.status_in, Causes.HasCause, Promised.IsBadFile, Readings.Readings}
+use Rattle.wg_outcomes.specs.{Judged.Judged, Judged.with_digraph, Judged.with_file, declared.ending.Ending.Ending}
 use Rattle.wg_readings.specs.Loading.{Loads, LoadsGraph, LoadsText, Reads, ReadsNamed}
 use Rattle.wg_outcomes.specs.Names.{IsOfInput, file_of, held_by, text_named}
-use Rattle.wg_outcomes.specs.Promised.{IsBadFile}
-use Rattle.wg_outcomes.specs.Readings.{Readings}
-use Rattle.wg_outcomes.specs.declared.ending.Ending.{Ending}
-use Rattle.wg_outcomes.specs.declared.status.Input.{Input}
+use Rattle.wg_outcomes.specs.{declared.status.Input.Input, declared.status.Status.TheVariants.Memory}
 use Rattle.wg_outcomes.specs.declared.status.Input.TheVariants.{Graph, Text}
-use Rattle.wg_outcomes.specs.declared.status.Status.TheVariants.{Memory}
 use Rattle.wg_outcomes.proofs.Statuses.{IsOwn, bad_own}
 use Rattle.wg_readings.proofs.ReadingsLaws.{the_readings}
 

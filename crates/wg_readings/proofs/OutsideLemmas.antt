@@ -1,23 +1,17 @@
 -- A file that is read as an input of a job, by what the reads of it say.
 use Rattle.std.proofs.Common.{◌≡◌, ℕ, ◌≤◌, Bool, true, false, List, length, sym, ◌∙◌, ap, option_and_then, Option, Some, None, Result, Ok, Err, arith}
-use Rattle.std.specs.Bool.{IsTrue}
-use Rattle.std.specs.Result.{IfErr, IsErrAnd}
+use Rattle.std.specs.{Bool.IsTrue, Result.IfErr, Result.IsErrAnd}
 use Rattle.std.specs.FinMap as map
 use Rattle.wg_outside.specs.Outside.{Files, Counts, Increased, NonDecreasing}
 use Rattle.wg_outside.specs.Reads.{Loads as LoadsAt}
-use Rattle.wg_outside.specs.declared.limits.TheConstants.{MOST_BYTES}
-use Rattle.wg_outside.specs.declared.whole.LoadError.{LoadError}
+use Rattle.wg_outside.specs.{declared.limits.TheConstants.MOST_BYTES, declared.whole.LoadError.LoadError}
 use Rattle.wg_outside.specs.declared.whole.LoadError.TheVariants as load
-use Rattle.wg_outcomes.specs.Answers.{Answers}
-use Rattle.wg_outcomes.specs.Judged.{Judged, with_file}
-use Rattle.wg_outcomes.specs.Names.{held_by}
-use Rattle.wg_outcomes.specs.declared.ending.Ending.{Ending}
-use Rattle.wg_outcomes.specs.declared.status.Input.{Input}
+use Rattle.wg_outcomes.specs.{Answers.Answers, Judged.Judged, Judged.with_file, Names.held_by}
+use Rattle.wg_outcomes.specs.{declared.ending.Ending.Ending, declared.status.Input.Input}
 use Rattle.wg_outcomes.specs.declared.status.Status.TheVariants.{Done, Memory}
 use Rattle.wg_outcomes.proofs.FileLemmas.{file_goes}
 use Rattle.wg_outcomes.proofs.Statuses.{absent_caused, failed_caused, own_caused}
-use Rattle.wg_readings.specs.Loading.{Loads}
-use Rattle.wg_readings.specs.Pairing.{status_at}
+use Rattle.wg_readings.specs.{Loading.Loads, Pairing.status_at}
 use Rattle.wg_readings.proofs.FindingLemmas.{of_input}
 
 abbrev given : (B E : Type 0) → B → Result B E

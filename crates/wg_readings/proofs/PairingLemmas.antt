@@ -1,46 +1,31 @@
 -- An offsets file that is read in pieces, in a validation.
 use Rattle.std.proofs.Common.{◌≡◌, inl, inr, ℕ, ◌+◌, ◌<◌, ◌≤◌, Bool, true, List, [], length, refl, sym, ◌∙◌, ap, subst, Option, Some, None, Result, Ok, Err, arith}
-use Rattle.std.specs.Bool.{IsTrue}
-use Rattle.std.specs.Result.{OnOk, IfErr, MatchResult}
+use Rattle.std.specs.{Bool.IsTrue, Result.OnOk, Result.IfErr, Result.MatchResult}
 use Rattle.std.proofs.lemmas.Result.{IfErr-weaker, MatchResult-weaker}
 use Rattle.std.specs.FinMap as map
-use Rattle.wg_outside.specs.declared.limits.TheConstants.{MOST_BYTES}
+use Rattle.wg_outside.specs.{declared.limits.TheConstants.MOST_BYTES, declared.whole.LoadError.LoadError}
 use Rattle.wg_outside.specs.Outside.{Files, Counts, NonDecreasing}
-use Rattle.wg_offsets.specs.Comparing.{AreCompared, Compared}
-use Rattle.wg_offsets.specs.Stages.{AreRead, WordsRead}
-use Rattle.wg_outside.specs.declared.whole.LoadError.{LoadError}
+use Rattle.wg_offsets.specs.{Comparing.AreCompared, Comparing.Compared, Stages.AreRead, Stages.WordsRead}
 use Rattle.wg_outside.specs.declared.whole.LoadError.TheVariants as load
 use Rattle.wg_bits.specs.Bits.{bits_of}
 use Rattle.wg_params.specs.Parameters.{Parameters, IsWithinLimits}
 use Rattle.wg_grammar.specs.declared.fault.ArchiveFault.TheVariants as archive
-use Rattle.wg_grammar.specs.Archive.{Accepted, places_of}
-use Rattle.wg_grammar.specs.Record.{Whole}
-use Rattle.wg_offsets.specs.Places.{last_place}
-use Rattle.wg_grammar.specs.declared.fault.OffsetWord.{OffsetWord}
-use Rattle.wg_grammar.specs.Errors.{OfFault, OfRefusal}
-use Rattle.wg_grammar.specs.declared.error.ReadError.{ReadError}
-use Rattle.wg_offsets.specs.Words.{ReadsOffsets}
+use Rattle.wg_grammar.specs.{Archive.Accepted, Archive.places_of, Record.Whole, declared.fault.OffsetWord.OffsetWord}
+use Rattle.wg_offsets.specs.{Places.last_place, Words.ReadsOffsets}
+use Rattle.wg_grammar.specs.{Errors.OfFault, Errors.OfRefusal, declared.error.ReadError.ReadError}
 use Rattle.wg_grammar.specs.declared.error.ReadError.TheVariants as words
 use Rattle.wg_source.specs.Held.{HeldBytes, IsHeldOf}
 use Rattle.wg_source.specs.Stepping.{Steps as StepsOn, HasCause as HasReadCause}
-use Rattle.wg_outcomes.specs.Answers.{Answers, Steps}
-use Rattle.wg_outcomes.specs.Causes.{IncreasedAt}
+use Rattle.wg_outcomes.specs.{Answers.Answers, Answers.Steps, Causes.IncreasedAt, Promised.IsBadFile, Readings.Readings}
 use Rattle.wg_outcomes.specs.Judged.{Judged, status_of, with_lengths, with_offsets, offsets_then}
-use Rattle.wg_outcomes.specs.Promised.{IsBadFile}
 use Rattle.wg_readings.specs.Pairing.{ComesWith, EndsPairing, HasCome, IsAt, IsPaired, IsPairedWith, IsStopped, IsUnread, files_then, status_at, word_ending}
-use Rattle.wg_readings.specs.Finding.{IsOpenOn}
-use Rattle.wg_outcomes.specs.declared.ending.Ending.{Ending}
-use Rattle.wg_readings.specs.declared.pairing.Pairing.{Pairing}
+use Rattle.wg_readings.specs.{Finding.IsOpenOn, declared.pairing.Pairing.Pairing}
+use Rattle.wg_outcomes.specs.{declared.ending.Ending.Ending, declared.status.Input.Input}
 use Rattle.wg_readings.specs.Passes.{IsGraphFile, accepted_of}
-use Rattle.wg_outcomes.specs.Readings.{Readings}
-use Rattle.wg_outcomes.specs.declared.status.Input.{Input}
 use Rattle.wg_outcomes.specs.declared.status.Input.TheVariants.{Graph, Offsets}
 use Rattle.wg_outcomes.specs.declared.status.Status.TheVariants.{BadArchive, Memory}
-use Rattle.wg_outcomes.proofs.FileLemmas.{file_goes, held_goes}
-use Rattle.wg_readings.proofs.PassLemmas.{graph_goes}
-use Rattle.wg_outcomes.proofs.Statuses.{bad_own, own_caused}
-use Rattle.wg_readings.proofs.UnderWay.{cause_later}
-use Rattle.wg_readings.proofs.FindingLemmas.{nothing_held}
+use Rattle.wg_outcomes.proofs.{FileLemmas.file_goes, FileLemmas.held_goes, Statuses.bad_own, Statuses.own_caused}
+use Rattle.wg_readings.proofs.{PassLemmas.graph_goes, UnderWay.cause_later, FindingLemmas.nothing_held}
 use Rattle.wg_readings.proofs.LoadLemmas.{end_caused}
 use Rattle.wg_readings.proofs.ReadingsLemmas.{goes_on_from, offsets_refused, steps_alike}
 

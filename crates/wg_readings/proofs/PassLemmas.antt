@@ -2,39 +2,27 @@
 use Rattle.std.proofs.Common.{◌≡◌, inl, inr, ℕ, Bool, true, false, List, refl, sym, ◌∙◌, ap, subst, Option, Some, None, Result, Ok, Err, arith}
 use Rattle.std.specs.Bool.{IsTrue}
 use Rattle.std.specs.FinMap as map
-use Rattle.wg_outside.specs.Outside.{Files, Counts}
-use Rattle.wg_outside.specs.declared.whole.LoadError.{LoadError}
+use Rattle.wg_outside.specs.{Outside.Files, Outside.Counts, declared.whole.LoadError.LoadError}
 use Rattle.wg_outside.specs.declared.whole.LoadError.TheVariants as load
 use Rattle.wg_params.specs.Parameters.{Parameters, IsWithinLimits}
-use Rattle.wg_grammar.specs.declared.fault.ArchiveFault.{ArchiveFault}
+use Rattle.wg_grammar.specs.{declared.fault.ArchiveFault.ArchiveFault, Archive.Accepted, Errors.OfRefusal}
 use Rattle.wg_grammar.specs.declared.fault.ArchiveFault.TheVariants as archive
-use Rattle.wg_grammar.specs.Archive.{Accepted}
 use Rattle.wg_source.specs.Held.{HeldBytes}
 use Rattle.wg_source.specs.Stepping.{HasCause as HasReadCause}
 use Rattle.wg_grammar.specs.declared.error.ReadError.{ReadError}
 use Rattle.wg_grammar.specs.declared.error.ReadError.TheVariants as pages
-use Rattle.wg_stream.specs.declared.first.First.{First}
-use Rattle.wg_stream.specs.declared.state.State.TheVariants.{Open}
-use Rattle.wg_grammar.specs.Errors.{OfRefusal}
-use Rattle.wg_stream.specs.FirstError.{Says}
+use Rattle.wg_stream.specs.{declared.first.First.First, declared.state.State.TheVariants.Open, FirstError.Says}
 use Rattle.wg_stream.specs.Reading.{Reading, Goes, IsJudged}
 use Rattle.wg_stream.proofs.ErrorLemmas.{no_err}
-use Rattle.wg_outcomes.specs.Answers.{Answers, Steps}
-use Rattle.wg_outcomes.specs.Causes.{HasCause}
-use Rattle.wg_outcomes.specs.Judged.{Judged, status_of, with_graph}
-use Rattle.wg_outcomes.specs.Names.{no_outputs}
-use Rattle.wg_outcomes.specs.Promised.{IsStopAt}
-use Rattle.wg_outcomes.specs.Readings.{Readings}
-use Rattle.wg_outcomes.specs.declared.ending.Ending.{Ending}
-use Rattle.wg_outcomes.specs.declared.status.Input.{Input}
+use Rattle.wg_outcomes.specs.{Answers.Answers, Answers.Steps, Causes.HasCause, Names.no_outputs, Promised.IsStopAt}
+use Rattle.wg_outcomes.specs.{Judged.Judged, Judged.status_of, Judged.with_graph, Readings.Readings}
+use Rattle.wg_outcomes.specs.{declared.ending.Ending.Ending, declared.status.Input.Input}
 use Rattle.wg_outcomes.specs.declared.status.Input.TheVariants.{Graph}
 use Rattle.wg_outcomes.specs.declared.status.Status.TheVariants.{BadArchive, Done, Memory}
 pub use Rattle.wg_outcomes.proofs.FileLemmas.{file_goes}
-use Rattle.wg_outcomes.proofs.FileLemmas.{held_goes}
-use Rattle.wg_outcomes.proofs.Statuses.{own_caused}
+use Rattle.wg_outcomes.proofs.{FileLemmas.held_goes, Statuses.own_caused}
 use Rattle.wg_readings.specs.Passes.{Advances, FollowsFile, IsFound, IsGraphFile, ending_at, graph_then}
-use Rattle.wg_readings.proofs.FindingLemmas.{error_steps}
-use Rattle.wg_readings.proofs.ReadingsLemmas.{goes_on, is_refused}
+use Rattle.wg_readings.proofs.{FindingLemmas.error_steps, ReadingsLemmas.goes_on, ReadingsLemmas.is_refused}
 
 -- ---- what an error tells, whatever the file is
 of_graph : (n : ℕ) (f : ArchiveFault) (first : First) → Says (pages.Fault f) first → IsStopAt Graph n (ending_at n (pages.Fault f))

@@ -4,16 +4,14 @@ use Rattle.std.proofs.Common.{◌≡◌, Option, Some, None, Err, refl, arith}
 use Rattle.wg_bits.specs.Bits.{bits_of}
 use Rattle.wg_params.specs.declared.key.Key.{Key}
 use Rattle.wg_params.specs.Parameters.{Parameters, IsWithinLimits, first_bad}
-use Rattle.wg_grammar.specs.declared.fault.ArchiveFault.TheVariants.{Tail}
-use Rattle.wg_grammar.specs.Archive.{ReadsGraph}
+use Rattle.wg_grammar.specs.{declared.fault.ArchiveFault.TheVariants.Tail, Archive.ReadsGraph}
 use Rattle.wg_grammar.proofs.OneGraph.{graph_one, graph_some}
 use Rattle.wg_grammar.specs.declared.fault.OffsetWord.TheVariants.{First}
 use Rattle.wg_offsets.specs.Words.{ReadsOffsets}
 use Rattle.wg_offsets.proofs.OneFile.{offsets_one, offsets_some}
 use Rattle.wg_decoder.specs.Chains.{SpotReads}
 use Rattle.wg_stream.proofs.SpotSome.{page_some}
-use Rattle.wg_arcs.proofs.SomeGraph.{texts_are_some}
-use Rattle.wg_arcs.proofs.Unique.{listed_one}
+use Rattle.wg_arcs.proofs.{SomeGraph.texts_are_some, Unique.listed_one}
 use Rattle.wg_ascii.proofs.Some as ascii
 use Rattle.wg_outcomes.specs.Readings.{Readings, ReadingsAreOne}
 use Rattle.wg_order.proofs.OneRanking.{ranking_some, ranking_one}

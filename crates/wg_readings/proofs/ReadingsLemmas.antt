@@ -3,33 +3,24 @@ use Rattle.std.proofs.Common.{◌≡◌, ◌∙◌, ◌<◌, ◌≤◌, ℕ, zer
 use Rattle.std.proofs.lemmas.Bool.{cases_Bool, le-leb, lt-leb}
 use Rattle.std.specs.Bool.{IsTrue}
 use Rattle.wg_bits.specs.Bits.{bits_of}
-use Rattle.wg_params.specs.Parameters.{Parameters, IsWithinLimits}
-use Rattle.wg_params.specs.declared.code.Code.{Code}
-use Rattle.wg_grammar.specs.declared.fault.ArchiveFault.{ArchiveFault}
+use Rattle.wg_params.specs.{Parameters.Parameters, Parameters.IsWithinLimits, declared.code.Code.Code}
+use Rattle.wg_grammar.specs.{declared.fault.ArchiveFault.ArchiveFault, declared.fault.OffsetWord.OffsetWord}
 use Rattle.wg_grammar.specs.declared.fault.ArchiveFault.TheVariants as archive
-use Rattle.wg_grammar.specs.declared.fault.OffsetWord.{OffsetWord}
-use Rattle.wg_grammar.specs.Archive.{Accepted, ReadsGraph}
-use Rattle.wg_grammar.specs.Context.{Known}
+use Rattle.wg_grammar.specs.{Archive.Accepted, Archive.ReadsGraph, Context.Known}
 use Rattle.wg_grammar.proofs.OneGraph.{graph_one}
-use Rattle.wg_offsets.specs.Places.{AgreeInLengths, IsFirstMismatch}
-use Rattle.wg_offsets.specs.Words.{ReadsOffsets}
-use Rattle.wg_offsets.proofs.OneFile.{offsets_one}
+use Rattle.wg_offsets.specs.{Places.AgreeInLengths, Places.IsFirstMismatch, Words.ReadsOffsets}
+use Rattle.wg_offsets.proofs.{OneFile.offsets_one, Differences.none_differ, Differences.first_differs}
 use Rattle.wg_decoder.specs.Chains.{SpotReads}
 use Rattle.wg_stream.proofs.SpotOne.{chain_one}
-use Rattle.wg_offsets.proofs.Differences.{none_differ, first_differs}
 use Rattle.wg_num.specs.Lines.{lines_of}
-use Rattle.wg_graph.specs.Digraph.{Digraph}
-use Rattle.wg_graph.specs.Numbers.{is_in}
+use Rattle.wg_graph.specs.{Digraph.Digraph, Numbers.is_in}
 use Rattle.wg_graph.proofs.Sets.{in_head}
-use Rattle.wg_arcs.specs.declared.fault.ArcsKind.{ArcsKind}
-use Rattle.wg_arcs.specs.Reading.{AreArcs, IsFirstFault, IsListed}
+use Rattle.wg_arcs.specs.{declared.fault.ArcsKind.ArcsKind, Reading.AreArcs, Reading.IsFirstFault, Reading.IsListed}
 use Rattle.wg_arcs.proofs.Unique.{listed_one}
 use Rattle.wg_ascii.specs.declared.fault.AsciiKind.{AsciiKind}
 use Rattle.wg_ascii.specs.Reading as ascii
 use Rattle.wg_ascii.proofs.Unique.{texts_are_one}
-use Rattle.wg_outcomes.specs.Answers.{Steps}
-use Rattle.wg_outcomes.specs.declared.ending.Ending.{Ending}
-use Rattle.wg_outcomes.specs.Readings.{Readings}
+use Rattle.wg_outcomes.specs.{Answers.Steps, declared.ending.Ending.Ending, Readings.Readings}
 use Rattle.wg_outcomes.specs.Judged.{Judged, refused, with_graph, with_offsets, with_lengths, with_list, with_pages, with_successors, with_text, unless_bad_chain, unless_bad_graph, unless_bad_offsets, unless_bad_list, unless_bad_text, unless_no_page, unless_some_differ}
 use Rattle.wg_outcomes.specs.declared.status.Status.TheVariants.{BadArcs, BadArchive, BadText, NoPage}
 use Rattle.wg_readings.proofs.LimitsLemmas.{coded}

@@ -1,29 +1,20 @@
 -- A reading of a graph file that is under way.
 use Rattle.std.proofs.Common.{◌≡◌, ℕ, ◌≤◌, Bool, List, [], ◌∷◌, ◌++◌, length, sym, ◌∙◌, ap, subst, arith, append_assoc, length-append, Ok, ◌+◌, true, Option, Some, Err}
 use Rattle.wg_params.specs.Parameters.{Parameters, IsWithinLimits}
-use Rattle.wg_grammar.specs.Record.{Whole}
-use Rattle.wg_grammar.specs.Archive.{Accepted, Pages, ReadsGraph, context_of}
-use Rattle.wg_grammar.proofs.OneRecord.{record_one}
-use Rattle.wg_stream.specs.Prefix.{PagesRead, AreBehind}
+use Rattle.wg_grammar.specs.{Record.Whole, Archive.Accepted, Archive.Pages, Archive.ReadsGraph, Archive.context_of}
+use Rattle.wg_grammar.proofs.{OneRecord.record_one, OneGraph.graph_one}
+use Rattle.wg_stream.specs.{Prefix.PagesRead, Prefix.AreBehind, declared.state.State.TheVariants.Open}
 use Rattle.wg_readings.specs.Passes.{accepted_of, Advances, FollowsFile, IsFound, IsFresh, IsGraphFile, graph_then}
 use Rattle.std.specs.Bool.{IsTrue}
 use Rattle.std.specs.FinMap as map
-use Rattle.wg_outside.specs.Outside.{Files, Counts, NonDecreasing}
-use Rattle.wg_outside.specs.declared.suffixes.TheConstants.{GRAPH}
+use Rattle.wg_outside.specs.{Outside.Files, Outside.Counts, Outside.NonDecreasing, declared.suffixes.TheConstants.GRAPH}
 use Rattle.wg_outside.proofs.FilesLemmas.{none_falls-trans}
 use Rattle.wg_bits.specs.Bits.{bits_of}
-use Rattle.wg_grammar.proofs.OneGraph.{graph_one}
-use Rattle.wg_stream.specs.declared.state.State.TheVariants.{Open}
 use Rattle.wg_stream.specs.declared.state.State.{State}
 use Rattle.wg_stream.specs.Reading.{Reading, AgreesIn, IsInStep, IsJudged, StaysInStep}
-use Rattle.wg_outcomes.specs.Answers.{Steps}
-use Rattle.wg_outcomes.specs.Causes.{HasCause}
-use Rattle.wg_outcomes.specs.Names.{file_of, held_by, no_outputs}
-use Rattle.wg_outcomes.specs.Readings.{Readings}
-use Rattle.wg_outcomes.specs.declared.ending.Ending.{Ending}
-use Rattle.wg_outcomes.specs.declared.status.Input.{Input}
-use Rattle.wg_outcomes.specs.declared.status.Input.TheVariants.{Graph}
-use Rattle.wg_outcomes.specs.declared.status.Status.{Status}
+use Rattle.wg_outcomes.specs.{Answers.Steps, Causes.HasCause, Names.file_of, Names.held_by, Names.no_outputs}
+use Rattle.wg_outcomes.specs.{Readings.Readings, declared.ending.Ending.Ending, declared.status.Input.Input}
+use Rattle.wg_outcomes.specs.{declared.status.Input.TheVariants.Graph, declared.status.Status.Status}
 
 -- ---- records that were read are the first of all records of their bits
 module _ (p : Parameters) (bits : List Bool) where

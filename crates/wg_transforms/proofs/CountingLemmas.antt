@@ -1,12 +1,9 @@
 -- The arcs of the records of a graph file, counted at their targets record by record.
 use Rattle.std.proofs.Common.{◌≡◌, ◌∙◌, ℕ, ◌+◌, ◌<◌, cond, List, [], ◌∷◌, length, get_or, sym, ap, arith}
 use Rattle.std.proofs.lemmas.List.{get_or_append_left, get_or_at}
-use Rattle.wg_graph.specs.Numbers.{is_in}
-use Rattle.wg_graph.specs.Digraph.{Digraph, successors}
-use Rattle.wg_graph.specs.Arcs.{has_arc}
+use Rattle.wg_graph.specs.{Numbers.is_in, Digraph.Digraph, Digraph.successors, Arcs.has_arc}
 use Rattle.wg_graph.proofs.Sets.{where_same}
-use Rattle.wg_grammar.specs.Record.{Whole}
-use Rattle.wg_grammar.specs.Archive.{lists_of}
+use Rattle.wg_grammar.specs.{Record.Whole, Archive.lists_of}
 use Rattle.wg_stream.proofs.PrefixLemmas.{length-lists, lists_more}
 use Rattle.wg_transpose.specs.SoFar.{AreCounts, predecessors_below}
 use Rattle.wg_transpose.proofs.Steps.{counted_more}

@@ -1,7 +1,6 @@
 -- The archive of a graph whose lists were encoded one after the other, and the number of its arcs told at the end.
 use Rattle.std.proofs.Common.{◌≡◌, ◌∙◌, ℕ, ◌+◌, ◌<◌, ◌≤◌, max, List, length, sym, ap, subst, arith}
-use Rattle.wg_params.specs.Parameters.{Parameters, params_of}
-use Rattle.wg_params.specs.declared.layout.Layout.{Layout}
+use Rattle.wg_params.specs.{Parameters.Parameters, Parameters.params_of, declared.layout.Layout.Layout}
 use Rattle.wg_params.specs.declared.limits.TheConstants.{MOST_ARCS, MOST_PAGES}
 use Rattle.wg_properties.specs.Text.{text_of}
 use Rattle.wg_graph.specs.Digraph.{Digraph, arc_count}

@@ -5,42 +5,30 @@ use Rattle.std.proofs.lemmas.Bool.{le-ltb, lt-ltb}
 use Rattle.wg_outside.specs.Outside.{Files, Counts}
 use Rattle.wg_outside.specs.declared.suffixes.TheConstants.{PROPERTIES, GRAPH, OFFSETS}
 use Rattle.wg_outside.proofs.FilesLemmas.{none_falls-trans}
-use Rattle.wg_params.specs.Parameters.{Parameters}
-use Rattle.wg_params.specs.declared.limits.TheConstants.{MOST_ARCS}
+use Rattle.wg_params.specs.{Parameters.Parameters, declared.limits.TheConstants.MOST_ARCS}
 use Rattle.wg_properties.specs.declared.fault.PropFault.{PropFault}
 use Rattle.wg_graph.specs.Digraph.{Digraph, arc_count}
-use Rattle.wg_grammar.specs.Archive.{Accepted}
-use Rattle.wg_grammar.specs.Laws.{accepted_graph}
-use Rattle.wg_grammar.specs.declared.fault.ArchiveFault.{ArchiveFault}
+use Rattle.wg_grammar.specs.{Archive.Accepted, Laws.accepted_graph, declared.fault.ArchiveFault.ArchiveFault}
 use Rattle.wg_grammar.specs.declared.fault.ArchiveFault.TheVariants as archive
 use Rattle.wg_shape.specs.Graphs.{union_graph}
-use Rattle.wg_words.specs.declared.jobs.Job.{Job}
-use Rattle.wg_words.specs.Jobs.{writing}
-use Rattle.wg_words.specs.declared.jobs.Origin.TheVariants.{Union}
+use Rattle.wg_words.specs.{declared.jobs.Job.Job, Jobs.writing, declared.jobs.Origin.TheVariants.Union}
 use Rattle.wg_params.specs.declared.layout.Layout.{Layout}
-use Rattle.wg_outcomes.specs.Answers.{Answers, IsHindrance, status_in, without}
-use Rattle.wg_outcomes.specs.Causes.{HasCause, IncreasedAt}
-use Rattle.wg_outcomes.specs.Judged.{Judged, refused, status_of, with_archive}
+use Rattle.wg_outcomes.specs.{Answers.Answers, Answers.IsHindrance, Answers.status_in, Answers.without, Reached.Reaches}
+use Rattle.wg_outcomes.specs.{Causes.HasCause, Causes.IncreasedAt, Promised.ArePromised, Promised.promised_in}
+use Rattle.wg_outcomes.specs.{Judged.Judged, Judged.refused, Judged.status_of, Judged.with_archive, Readings.Readings}
 use Rattle.wg_outcomes.specs.Names.{file_of, file_of_fault, held_by, no_outputs}
-use Rattle.wg_outcomes.specs.Promised.{ArePromised, promised_in}
-use Rattle.wg_outcomes.specs.Readings.{Readings}
 use Rattle.wg_outcomes.specs.Second.{as_second, of_second, second_ending, second_held, second_input}
-use Rattle.wg_outcomes.specs.declared.ending.Ending.{Ending}
-use Rattle.wg_outcomes.specs.declared.status.Input.{Input}
+use Rattle.wg_outcomes.specs.{declared.ending.Ending.Ending, declared.status.Input.Input, declared.status.Status.Status}
 use Rattle.wg_outcomes.specs.declared.status.Input.TheVariants as input
-use Rattle.wg_outcomes.specs.declared.status.Status.{Status}
 use Rattle.wg_outcomes.specs.declared.status.Status.TheVariants.{Memory, ReadFault, Missing, BadProperties, BadArchive, TooManyArcs, OverLimit}
 use Rattle.wg_outcomes.proofs.Statuses.{IsStop, absent_caused, failed_caused, own_caused}
-use Rattle.wg_readings.proofs.JobSteps.{IsRefusal, ends_refused, want_refuses}
-use Rattle.wg_readings.proofs.UnderWay.{cause_later}
+use Rattle.wg_readings.proofs.{JobSteps.IsRefusal, JobSteps.ends_refused, JobSteps.want_refuses, UnderWay.cause_later}
 use Rattle.wg_outcomes.specs.Commands.{builds, with_union}
 use Rattle.wg_transforms.specs.Loaded.{IsArchiveFile, IsOfArchive, LoadsArchive, result_of_second}
 use Rattle.wg_outcomes.specs.JobFiles.{can_end, input_name, output_name}
 use Rattle.wg_outcomes.specs.Performs.{BuildsArchive, OutCounts, Outside, Performs, judged_on, outside}
-use Rattle.wg_outcomes.specs.Reached.{Reaches}
 use Rattle.wg_transforms.specs.declared.loaded.Loaded.{Loaded}
-use Rattle.wg_outcomes.proofs.BuildLemmas.{written}
-use Rattle.wg_outcomes.proofs.PerformsLemmas.{stopped}
+use Rattle.wg_outcomes.proofs.{BuildLemmas.written, PerformsLemmas.stopped}
 
 -- ---- each end at an archive, and each of its files
 

@@ -1,23 +1,19 @@
 -- A job is within its limits.
 use Rattle.std.proofs.Common.{◌≡◌, ℕ, ◌≤◌, Bool, false, List, Option, Some, None, Result, Err, IfOk, sym, ◌∙◌, option_and_then, option_map, cond, arith, subst, codes}
 use Rattle.std.specs.Str.{bytes_eq}
-use Rattle.std.proofs.lemmas.Bool.{false_from_ne_true}
-use Rattle.std.proofs.lemmas.Slice.Eq.{bytes_eq-Decides}
+use Rattle.std.proofs.{lemmas.Bool.false_from_ne_true, lemmas.Slice.Eq.bytes_eq-Decides}
 use Rattle.std.proofs.lemmas.Option.{none-some, same_Some, option_and_then_some}
 use Rattle.clap.specs.Words.{Row, Text, first_of}
 use Rattle.wg_params.specs.Parameters.{IsWithinLimits, params_of}
 use Rattle.wg_params.specs.declared.limits.TheConstants.{MOST_PAGES, MOST_DAMPING, MOST_ROUNDS, MOST_GENERATED}
-use Rattle.wg_words.specs.Asked.{IsAsked}
+use Rattle.wg_words.specs.{Asked.IsAsked, declared.conversion.Conversion.Conversion, declared.jobs.Job.Job}
 use Rattle.wg_words.specs.Files.{is_file_of, overwrites, IsNoFileOf, KeepsInputs, ShareNoFile}
 use Rattle.wg_words.specs.Values.{name_in, number_up_to, numbers_in, optional_name_in, unlimited_in}
 use Rattle.wg_words.specs.Jobs.{show_on, spot_on, rank_from, rank_with, rank_on, verifying, verify_on, build_from, build_on, import_from, import_on, conversion_from, conversion_of, conversion_in, quotient_by, quotient_on, quotient_in, recoding, union_with, union_of, union_in, transposing, bulk_in, job_on, job_on_base, job_from, job_of, writing, IsWithin}
-use Rattle.wg_words.specs.declared.conversion.Conversion.{Conversion}
 use Rattle.wg_words.specs.declared.defaults.TheConstants.{DEFAULT_DAMPING, DEFAULT_ROUNDS, DEFAULT_TOP}
-use Rattle.wg_words.specs.declared.jobs.Job.{Job}
 use Rattle.wg_words.specs.declared.jobs.Job.TheVariants.{Check, Arcs, Ascii, Offsets, Show, Spot, Rank, Bulk}
 use Rattle.wg_words.specs.declared.jobs.Origin.TheVariants.{Build, Import, Quotient, Union}
-use Rattle.wg_words.specs.declared.jobs.JobError.{JobError}
-use Rattle.wg_words.specs.declared.jobs.JobError.TheVariants.{Usage}
+use Rattle.wg_words.specs.{declared.jobs.JobError.JobError, declared.jobs.JobError.TheVariants.Usage}
 use Rattle.wg_words.proofs.FileLemmas.{no_file, keeps_inputs, no_file_shared_unless}
 use Rattle.wg_words.proofs.LayoutLemmas.{layout_in_within}
 use Rattle.wg_words.proofs.ValueLemmas.{up_to_within, number_within, some_unless}

@@ -4,14 +4,12 @@ use Rattle.std.proofs.lemmas.Option.{same_Some, option_and_then_some}
 use Rattle.clap.specs.Words.{Row, Text, first_of}
 use Rattle.wg_params.specs.Codes.{is_gamma_or_delta, is_unary_gamma_or_delta, is_residual_code}
 use Rattle.wg_params.specs.Parameters.{AreCodes, IsWithinLimits, params_of}
-use Rattle.wg_params.specs.declared.code.Code.{Code}
+use Rattle.wg_params.specs.{declared.code.Code.Code, declared.layout.Codes.Codes, declared.layout.Layout.Layout}
 use Rattle.wg_params.specs.declared.code.Code.TheVariants.{Gamma, Delta}
 use Rattle.wg_params.specs.declared.limits.TheConstants.{MOST_PAGES, MOST_ARCS, MOST_WINDOW, MOST_CHAIN, MOST_INTERVAL, MOST_ZETA}
 use Rattle.wg_words.specs.Values.{word_in}
 use Rattle.wg_words.specs.Layouts.{chain_or, zeta_in, gamma_or_delta, unary_gamma_or_delta, residual_code, codes_in, layout_in}
 use Rattle.wg_words.specs.declared.defaults.TheConstants.{DEFAULT_WINDOW, DEFAULT_INTERVAL, DEFAULT_OUTDEGREES, DEFAULT_REFERENCES, DEFAULT_BLOCK_COUNTS, DEFAULT_BLOCKS, DEFAULT_RESIDUALS, DEFAULT_OFFSETS}
-use Rattle.wg_params.specs.declared.layout.Codes.{Codes}
-use Rattle.wg_params.specs.declared.layout.Layout.{Layout}
 use Rattle.wg_words.proofs.ValueLemmas.{number_within, first_or_other}
 
 -- gamma or delta, under whatever holds of both

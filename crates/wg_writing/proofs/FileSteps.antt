@@ -1,30 +1,21 @@
 -- What stands of an archive's files after each step of its writing.
 use Rattle.std.proofs.Common.{◌≡◌, inl, inr, ℕ, ◌<◌, Bool, List, [], length, take, refl, sym, ap, subst, ◌∙◌, Option, Some, Result, Ok, Err}
-use Rattle.std.specs.Bool.{IsTrue}
-use Rattle.std.specs.Result.{IfErr, IsErrAnd, OnOk}
+use Rattle.std.specs.{Bool.IsTrue, Result.IfErr, Result.IsErrAnd, Result.OnOk}
 use Rattle.std.specs.FinMap as map
 use Rattle.std.proofs.Math.Seq.{take-length}
-use Rattle.wg_outside.specs.Outside.{Files, Counts}
+use Rattle.wg_outside.specs.{Outside.Files, Outside.Counts, declared.output.Output.Output}
 use Rattle.wg_outside.specs.Suffixes.{properties_name, graph_name, offsets_name}
-use Rattle.wg_outside.proofs.FilesLemmas.{none_falls-refl, none_falls-trans}
-use Rattle.wg_outside.proofs.PutsLemmas.{is_that_err}
+use Rattle.wg_outside.proofs.{FilesLemmas.none_falls-refl, FilesLemmas.none_falls-trans, PutsLemmas.is_that_err}
 use Rattle.wg_outside.proofs.SuffixLemmas.{graph_offsets}
-use Rattle.wg_outside.specs.declared.output.Output.{Output}
 use Rattle.wg_outside.specs.declared.output.Output.TheVariants as output
 use Rattle.wg_encoder.proofs.FileNames.{properties_graph, properties_offsets}
-use Rattle.wg_greedy.specs.Archive.{Archive}
-use Rattle.wg_greedy.specs.Held.{HoldsFront, HoldsLess}
-use Rattle.wg_outcomes.specs.Answers.{status_in}
-use Rattle.wg_outcomes.specs.Names.{archive_named}
-use Rattle.wg_outcomes.specs.Causes.{IncreasedAt}
+use Rattle.wg_greedy.specs.{Archive.Archive, Held.HoldsFront, Held.HoldsLess}
+use Rattle.wg_outcomes.specs.{Answers.status_in, Names.archive_named, Causes.IncreasedAt, declared.ending.Ending.Ending}
 use Rattle.wg_outcomes.specs.Written.{ArchiveFiles, FaultsRose, FilesAfter, IsStopped, IsStoppedAt, StayBeside, Touches, archive_in, emptied, unnamed}
-use Rattle.wg_outcomes.specs.declared.ending.Ending.{Ending}
 use Rattle.wg_outcomes.specs.declared.status.Status.TheVariants.{Done, Memory, WriteFault}
-use Rattle.wg_outcomes.proofs.Statuses.{by_stop, rose_late}
-use Rattle.wg_outcomes.proofs.WritingLemmas.{rose_there, stopped_at}
+use Rattle.wg_outcomes.proofs.{Statuses.by_stop, Statuses.rose_late, WritingLemmas.rose_there, WritingLemmas.stopped_at}
 use Rattle.wg_outcomes.proofs.BuildLemmas.{others_twice}
-use Rattle.wg_writing.specs.Writing.{WritesFiles, names_of, whole}
-use Rattle.wg_writing.specs.declared.writing.FileNames.{FileNames}
+use Rattle.wg_writing.specs.{Writing.WritesFiles, Writing.names_of, Writing.whole, declared.writing.FileNames.FileNames}
 
 -- what a step answers
 abbrev Outcome : Type 0

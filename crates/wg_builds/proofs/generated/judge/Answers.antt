@@ -1,8 +1,7 @@
 use Rattle.std.proofs.Common.{refl, sym, subst}
 use Rattle.wg_outcomes.specs.Bulk.{IsBuilt}
 use Rattle.wg_builds.proofs.BulkLemmas.{bits_are, no_bits, no_params, params_are}
-use Rattle.wg_outcomes.proofs.PerformsLemmas.{faultless}
-use Rattle.wg_outcomes.proofs.WritingLemmas.{if_that_err}
+use Rattle.wg_outcomes.proofs.{PerformsLemmas.faultless, WritingLemmas.if_that_err}
 use Rattle.wg_builds.proofs.generated.judge.Goals as goal
 
 pub returns-in_err-params-clause-only : goal.returns-in_err-params-clause-only

@@ -4,8 +4,7 @@ use Rattle.wg_words.specs.declared.defaults.TheConstants.{DEFAULT_DAMPING}
 use Rattle.wg_rank.specs.Rounds.{bounds_after}
 use Rattle.wg_outcomes.specs.declared.outcome.TheConstants.{BULK_ROUNDS}
 use Rattle.wg_builds.proofs.BulkLemmas.{bounds_of_graph, no_graph}
-use Rattle.wg_outcomes.proofs.PerformsLemmas.{faultless}
-use Rattle.wg_outcomes.proofs.WritingLemmas.{if_that_err}
+use Rattle.wg_outcomes.proofs.{PerformsLemmas.faultless, WritingLemmas.if_that_err}
 use Rattle.wg_builds.proofs.generated.rounded.Goals as goal
 
 pub room_for-requires-clause-weights : goal.room_for-requires-clause-weights

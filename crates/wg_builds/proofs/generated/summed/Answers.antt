@@ -1,9 +1,7 @@
 use Rattle.std.proofs.Common.{◌≡◌, ◌∙◌, sym, ap}
 use Rattle.wg_params.specs.Parameters.{Parameters}
 use Rattle.wg_rank.specs.Intervals.{Intervals}
-use Rattle.wg_order.specs.Order.{Positions}
-use Rattle.wg_order.specs.Summary.{summary_of}
-use Rattle.wg_order.specs.declared.summary.RankingSummary.{RankingSummary}
+use Rattle.wg_order.specs.{Order.Positions, Summary.summary_of, declared.summary.RankingSummary.RankingSummary}
 use Rattle.wg_outcomes.specs.Bulk.{bulk_positions}
 use Rattle.wg_builds.proofs.generated.summed.Goals as goal
 

@@ -1,6 +1,5 @@
 use Rattle.std.proofs.Common.{refl}
-use Rattle.wg_words.specs.Jobs.{writing}
-use Rattle.wg_words.specs.declared.jobs.Origin.TheVariants.{Import}
+use Rattle.wg_words.specs.{Jobs.writing, declared.jobs.Origin.TheVariants.Import}
 use Rattle.wg_outcomes.proofs.BuildLemmas.{written}
 use Rattle.wg_readings.proofs.JobSteps.{does_exit}
 use Rattle.wg_builds.proofs.ImportJobs.{text_unread}

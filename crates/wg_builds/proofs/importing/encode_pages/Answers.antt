@@ -5,14 +5,11 @@ use Rattle.wg_outside.specs.Outside.{Files}
 use Rattle.wg_outside.proofs.FilesLemmas.{none_falls-trans}
 use Rattle.wg_num.specs.Lines.{lines_of}
 use Rattle.wg_lines.specs.Reading.{IsReadable, lines_after}
-use Rattle.wg_params.specs.Parameters.{params_of}
-use Rattle.wg_params.specs.declared.limits.TheConstants.{MOST_ARCS}
+use Rattle.wg_params.specs.{Parameters.params_of, declared.limits.TheConstants.MOST_ARCS}
 use Rattle.wg_ascii.specs.Growing.{IsFirst, IsUpTo}
 use Rattle.wg_outcomes.specs.Names.{text_named}
 use Rattle.wg_readings.proofs.LoadLemmas.{text_unloaded}
-use Rattle.wg_builds.proofs.ImportJobs.{text_after, text_stops}
-use Rattle.wg_builds.proofs.ImportingLemmas.{no_later}
-use Rattle.wg_builds.proofs.TextJobs.{still}
+use Rattle.wg_builds.proofs.{ImportJobs.text_after, ImportJobs.text_stops, ImportingLemmas.no_later, TextJobs.still}
 use Rattle.wg_builds.proofs.importing.encode_pages.Goals as goal
 
 pub returns-in_err-reader : goal.returns-in_err-reader

@@ -8,8 +8,7 @@ use Rattle.wg_lines.specs.Reading.{lines_after}
 use Rattle.wg_ascii.specs.Growing.{IsUpTo}
 use Rattle.wg_outcomes.specs.Names.{text_named}
 use Rattle.wg_readings.proofs.LoadLemmas.{text_unloaded}
-use Rattle.wg_builds.proofs.ImportJobs.{text_after, text_read, text_stops}
-use Rattle.wg_builds.proofs.ImportingLemmas.{lent}
+use Rattle.wg_builds.proofs.{ImportJobs.text_after, ImportJobs.text_read, ImportJobs.text_stops, ImportingLemmas.lent}
 use Rattle.wg_builds.proofs.TextJobs.{still}
 use Rattle.wg_builds.proofs.importing.encode_rest.Goals as goal
 

@@ -1,7 +1,6 @@
 use Rattle.std.proofs.Common.{◌≡◌, ◌+◌, ◌-◌, ◌≤◌, List, ℕ, IsTrue, Some, length}
 use Rattle.std.specs.FinMap as map
-use Rattle.wg_outside.specs.Outside.{NonDecreasing}
-use Rattle.wg_outside.specs.declared.limits.TheConstants.{MOST_BYTES}
+use Rattle.wg_outside.specs.{Outside.NonDecreasing, declared.limits.TheConstants.MOST_BYTES}
 use Rattle.wg_num.specs.Lines.{lines_of}
 use Rattle.wg_lines.specs.Reading.{lines_after}
 use Rattle.wg_ascii.specs.Growing.{IsUpTo}

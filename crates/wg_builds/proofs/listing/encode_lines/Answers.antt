@@ -5,14 +5,12 @@ use Rattle.wg_outside.specs.Outside.{Files}
 use Rattle.wg_outside.proofs.FilesLemmas.{none_falls-refl, none_falls-trans}
 use Rattle.wg_num.specs.Lines.{lines_of}
 use Rattle.wg_lines.specs.Reading.{lines_after}
-use Rattle.wg_arcs.specs.Growing.{SoFar}
-use Rattle.wg_arcs.specs.Listing.{AreListed, arcs_on}
+use Rattle.wg_arcs.specs.{Growing.SoFar, Listing.AreListed, Listing.arcs_on}
 use Rattle.wg_arcs.proofs.ListedLemmas.{none_listed}
 use Rattle.wg_outcomes.specs.Names.{list_named}
 use Rattle.wg_builds.specs.Listed.{IsFault}
 use Rattle.wg_builds.proofs.ListedJobs.{lent_now, list_encoded, list_stops, list_unheld, list_unread_after}
-use Rattle.wg_builds.proofs.ListingLemmas.{may_take}
-use Rattle.wg_builds.proofs.TextJobs.{still}
+use Rattle.wg_builds.proofs.{ListingLemmas.may_take, TextJobs.still}
 use Rattle.wg_builds.proofs.listing.encode_lines.Goals as goal
 
 pub returns-in_err-reader : goal.returns-in_err-reader

@@ -1,11 +1,9 @@
 use Rattle.std.proofs.Common.{◌≡◌, ◌+◌, ◌-◌, ◌≤◌, List, ℕ, IsTrue, Some, length}
 use Rattle.std.specs.FinMap as map
-use Rattle.wg_outside.specs.Outside.{NonDecreasing}
-use Rattle.wg_outside.specs.declared.limits.TheConstants.{MOST_BYTES}
+use Rattle.wg_outside.specs.{Outside.NonDecreasing, declared.limits.TheConstants.MOST_BYTES}
 use Rattle.wg_num.specs.Lines.{lines_of}
 use Rattle.wg_lines.specs.Reading.{IsReadable, lines_after}
-use Rattle.wg_arcs.specs.Growing.{SoFar}
-use Rattle.wg_arcs.specs.Listing.{arcs_on}
+use Rattle.wg_arcs.specs.{Growing.SoFar, Listing.arcs_on}
 use Rattle.wg_builds.specs.Listed.{IsUnderWay}
 use Rattle.wg_builds.proofs.listing.encode_lines.Given as goal
 

@@ -1,5 +1,4 @@
-use Rattle.std.proofs.Common.{refl}
-use Rattle.std.proofs.lemmas.Result.{err_from_is_err_and}
+use Rattle.std.proofs.{Common.refl, lemmas.Result.err_from_is_err_and}
 use Rattle.wg_outside.proofs.FilesLemmas.{none_falls-refl}
 use Rattle.wg_builds.proofs.ListedJobs.{list_unheld}
 use Rattle.wg_builds.proofs.listing.encode_list.Goals as goal

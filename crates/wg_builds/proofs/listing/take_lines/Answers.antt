@@ -2,8 +2,7 @@ use Rattle.std.proofs.Common.{◌≡◌, ◌++◌, ◌∙◌, ℕ, List, length,
 use Rattle.std.specs.Prelude.{option_to_list}
 use Rattle.wg_num.specs.Lines.{lines_of}
 use Rattle.wg_num.proofs.Cuts.{no_lines}
-use Rattle.wg_arcs.specs.Growing.{SoFar}
-use Rattle.wg_arcs.specs.Listing.{arcs_on}
+use Rattle.wg_arcs.specs.{Growing.SoFar, Listing.arcs_on}
 use Rattle.wg_arcs.proofs.Order.{Arc}
 use Rattle.wg_outcomes.proofs.WritingLemmas.{if_that_err}
 use Rattle.wg_builds.specs.Listed.{IsFault, done_at}

@@ -1,7 +1,6 @@
 use Rattle.std.proofs.Common.{◌≡◌, ◌+◌, ◌≤◌, ◌++◌, List, ℕ, length}
 use Rattle.wg_num.specs.Lines.{lines_of}
-use Rattle.wg_arcs.specs.Growing.{SoFar}
-use Rattle.wg_arcs.specs.Listing.{arcs_on}
+use Rattle.wg_arcs.specs.{Growing.SoFar, Listing.arcs_on}
 use Rattle.wg_builds.specs.Listed.{IsUnderWay}
 use Rattle.wg_builds.proofs.listing.take_lines.Given as goal
 

@@ -1,26 +1,19 @@
 use Rattle.std.proofs.Common.{◌≡◌, ◌∙◌, inl, inr, refl, sym, ap, subst, Option, Some}
-use Rattle.wg_words.specs.Jobs.{job_of}
-use Rattle.wg_words.specs.declared.jobs.Job.{Job}
+use Rattle.wg_words.specs.{Jobs.job_of, declared.jobs.Job.Job}
 use Rattle.wg_words.specs.declared.jobs.Job.TheVariants.{Bulk, Rank, Verify}
-use Rattle.wg_outcomes.specs.Answers.{Answers, HasOutput}
-use Rattle.wg_outcomes.specs.Judged.{Judged, output_of}
-use Rattle.wg_outcomes.specs.JobFiles.{held_for}
+use Rattle.wg_outcomes.specs.{Answers.Answers, Answers.HasOutput, Judged.Judged, Judged.output_of, JobFiles.held_for}
 use Rattle.wg_outcomes.specs.Performs.{Outside, Performs, judged_on, out_counts, outside}
 use Rattle.wg_outcomes.specs.declared.status.Status.TheVariants.{Done, Memory}
 use Rattle.wg_outcomes.specs.Readings.{Readings}
 use Rattle.std.specs.Bool.{IsTrue}
 use Rattle.wg_cli.specs.Wanted.{ArePromisedBy, some_calls_depot, some_writes_files}
-use Rattle.wg_cli.proofs.LineLemmas.{nothing_promised}
-use Rattle.wg_cli.proofs.RunLemmas.{not_begun, not_done, not_usage}
+use Rattle.wg_cli.proofs.{LineLemmas.nothing_promised, RunLemmas.not_begun, RunLemmas.not_done, RunLemmas.not_usage}
 use Rattle.wg_words.proofs.JobLemmas.{bulk_within, job_within}
-use Rattle.wg_outcomes.proofs.PerformsLemmas.{unhindered}
-use Rattle.wg_outcomes.proofs.Statuses.{IsRead, IsStop}
+use Rattle.wg_outcomes.proofs.{PerformsLemmas.unhindered, Statuses.IsRead, Statuses.IsStop, SureLemmas.proven_outcome}
 use Rattle.wg_outside.proofs.FilesLemmas.{none_falls-refl}
 use Rattle.wg_cli.proofs.ProvenLemmas.{proven_ranking, when_done}
-use Rattle.wg_outcomes.proofs.SureLemmas.{proven_outcome}
 use Rattle.wg_laws.specs.Certificates.{AreStill}
-use Rattle.wg_laws.proofs.VerifiedLemmas.{proven_gap}
-use Rattle.wg_laws.proofs.WrittenLemmas.{written_accepted}
+use Rattle.wg_laws.proofs.{VerifiedLemmas.proven_gap, WrittenLemmas.written_accepted}
 use Rattle.wg_cli.proofs.program.run.Goals as goal
 
 pub returns-in_default : goal.returns-in_default

@@ -1,5 +1,4 @@
-use Rattle.wg_laws.proofs.VerifiedLemmas.{accepted_proven}
-use Rattle.wg_laws.proofs.WrittenLemmas.{written_accepted}
+use Rattle.wg_laws.proofs.{VerifiedLemmas.accepted_proven, WrittenLemmas.written_accepted}
 use Rattle.wg_laws.proofs.laws.certificates.Goals as goal
 
 pub returns-clause-proven : goal.returns-clause-proven

@@ -1,14 +1,12 @@
 use Rattle.std.proofs.Common.{rules, ◌≡◌, ◌∙◌, false, true, Err, Ok, Some, Result, ap, refl}
 use Rattle.std.specs.FinMap as map
 use Rattle.std.proofs.lemmas.Result.{IfOk-from_err}
-use Rattle.wg_outside.proofs.FilesLemmas.{none_falls-refl}
-use Rattle.wg_outside.proofs.PutsLemmas.{is_that_err}
+use Rattle.wg_outside.proofs.{FilesLemmas.none_falls-refl, PutsLemmas.is_that_err}
 use Rattle.wg_outside.specs.declared.whole.LoadError.{LoadError}
 use Rattle.wg_outside.specs.declared.whole.LoadError.TheVariants as load
 use Rattle.wg_outcomes.specs.Names.{file_of}
 use Rattle.wg_source.specs.Held.{HeldBytes}
-use Rattle.wg_readings.proofs.FindingLemmas.{found_open, not_found}
-use Rattle.wg_readings.proofs.LoadLemmas.{loads_none}
+use Rattle.wg_readings.proofs.{FindingLemmas.found_open, FindingLemmas.not_found, LoadLemmas.loads_none}
 use Rattle.wg_readings.proofs.PassLemmas.{found_after}
 use Rattle.wg_lookups.proofs.found_file.find_file.Goals as goal
 

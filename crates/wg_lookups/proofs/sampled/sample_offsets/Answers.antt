@@ -1,16 +1,12 @@
 use Rattle.std.proofs.Common.{◌≡◌, ◌∙◌, ◌++◌, ℕ, List, Some, Ok, refl, sym, ap, subst}
 use Rattle.std.specs.FinMap as map
 use Rattle.wg_bits.specs.Bits.{bits_of}
-use Rattle.wg_outside.specs.Outside.{Files}
-use Rattle.wg_outside.specs.declared.suffixes.TheConstants.{OFFSETS}
-use Rattle.wg_outside.proofs.FilesLemmas.{none_falls-trans}
-use Rattle.wg_outside.proofs.PutsLemmas.{is_that_err}
-use Rattle.wg_outcomes.specs.Judged.{with_offsets}
-use Rattle.wg_outcomes.specs.Names.{file_of}
+use Rattle.wg_outside.specs.{Outside.Files, declared.suffixes.TheConstants.OFFSETS}
+use Rattle.wg_outside.proofs.{FilesLemmas.none_falls-trans, PutsLemmas.is_that_err}
+use Rattle.wg_outcomes.specs.{Judged.with_offsets, Names.file_of}
 use Rattle.wg_outcomes.specs.declared.status.Input.TheVariants as input
 use Rattle.wg_readings.specs.Finding.{IsOpenOn}
-use Rattle.wg_readings.proofs.LoadLemmas.{read_unloaded}
-use Rattle.wg_readings.proofs.PairingLemmas.{places_go, stopped_since}
+use Rattle.wg_readings.proofs.{LoadLemmas.read_unloaded, PairingLemmas.places_go, PairingLemmas.stopped_since}
 use Rattle.wg_readings.proofs.ReadingsLemmas.{by_params}
 use Rattle.wg_lookups.proofs.sampled.sample_offsets.Goals as goal
 

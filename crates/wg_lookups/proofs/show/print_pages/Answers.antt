@@ -1,12 +1,10 @@
 use Rattle.std.proofs.Common.{◌≡◌, ◌+◌, ◌∙◌, [], List, ℕ, ap, arith, map, subst, sum_by, take}
-use Rattle.std.proofs.lemmas.List.{take_all}
-use Rattle.std.proofs.lemmas.List.Sums.{sum_by_more, sum_by_more_le}
+use Rattle.std.proofs.{lemmas.List.take_all, lemmas.List.Sums.sum_by_more, lemmas.List.Sums.sum_by_more_le}
 use Rattle.wg_outside.specs.Puts.{joined}
 use Rattle.wg_lines.specs.Printing.{HasPrinted}
 use Rattle.wg_outside.proofs.PutsLemmas.{is_that_err, rose_on}
 use Rattle.wg_lines.proofs.PrintLemmas.{puts_of_less, puts_in_the_end}
-use Rattle.wg_outcomes.specs.Commands.{line_in, successors_lines}
-use Rattle.wg_outcomes.specs.declared.ending.Ending.{Ending}
+use Rattle.wg_outcomes.specs.{Commands.line_in, Commands.successors_lines, declared.ending.Ending.Ending}
 use Rattle.wg_lines.proofs.NumberLines.{line_printed, line_less}
 use Rattle.wg_lookups.specs.Showing.{chain_records}
 use Rattle.wg_lookups.proofs.ShownLemmas.{if_always}

@@ -4,8 +4,7 @@ use Rattle.wg_params.specs.Parameters.{Parameters}
 use Rattle.wg_grammar.specs.Archive.{Accepted, ReadsGraph}
 use Rattle.wg_random.specs.Checked.{CheckedRecords}
 use Rattle.wg_outside.specs.Puts.{Puts}
-use Rattle.wg_outcomes.specs.Commands.{successors_lines}
-use Rattle.wg_outcomes.specs.declared.status.Input.TheVariants.{Graph}
+use Rattle.wg_outcomes.specs.{Commands.successors_lines, declared.status.Input.TheVariants.Graph}
 use Rattle.wg_readings.proofs.JobSteps.{does_exit}
 use Rattle.wg_lookups.proofs.ShowJobs.{no_bytes, no_offsets, no_page, no_params, no_records, shows}
 use Rattle.wg_lookups.proofs.ShownLemmas.{archive_reads, none_opened, opened_as, same_held, same_parameters}

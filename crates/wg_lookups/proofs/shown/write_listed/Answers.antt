@@ -1,5 +1,4 @@
-use Rattle.std.proofs.Common.{Err}
-use Rattle.std.proofs.lemmas.List.{take_all}
+use Rattle.std.proofs.{Common.Err, lemmas.List.take_all}
 use Rattle.wg_outside.proofs.RefusalLemmas.{sink_after, sink_done, sink_exit}
 use Rattle.wg_outcomes.specs.Commands.{spaced}
 use Rattle.wg_lines.proofs.NumberLines.{line_printed, line_less}

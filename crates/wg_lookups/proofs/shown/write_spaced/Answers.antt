@@ -1,7 +1,6 @@
 use Rattle.std.proofs.Common.{◌∷◌, [], decimal}
 use Rattle.wg_outside.proofs.RefusalLemmas.{sink_after, sink_exit}
-use Rattle.wg_lines.proofs.PrintLemmas.{less_before}
-use Rattle.wg_lines.proofs.PrintLemmas.{prints_after}
+use Rattle.wg_lines.proofs.{PrintLemmas.less_before, PrintLemmas.prints_after}
 use Rattle.wg_lookups.proofs.ShownLemmas.{prints_exit}
 use Rattle.wg_lookups.proofs.shown.write_spaced.Goals as goal
 

@@ -1,12 +1,9 @@
 use Rattle.std.proofs.Common.{List, ℕ, subst}
 use Rattle.wg_lines.specs.Printing.{HasPrinted, HasPrintedLess}
 use Rattle.wg_lines.proofs.PrintLemmas.{puts_in_the_end, puts_of_less}
-use Rattle.wg_outside.proofs.PutsLemmas.{is_that_err}
-use Rattle.wg_outcomes.specs.Answers.{unput}
-use Rattle.wg_outcomes.specs.Commands.{successors_line}
+use Rattle.wg_outside.proofs.{PutsLemmas.is_that_err, LoadLemmas.risen}
+use Rattle.wg_outcomes.specs.{Answers.unput, Commands.successors_line, declared.ending.Ending.Ending}
 use Rattle.wg_outcomes.proofs.Statuses.{print_refused}
-use Rattle.wg_outcomes.specs.declared.ending.Ending.{Ending}
-use Rattle.wg_outside.proofs.LoadLemmas.{risen}
 use Rattle.wg_lookups.proofs.spot.print_line.Goals as goal
 
 pub returns-in_err-write_list : goal.returns-in_err-write_list

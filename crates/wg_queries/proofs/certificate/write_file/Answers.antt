@@ -1,6 +1,5 @@
-use Rattle.std.proofs.Common.{ap, inl, inr}
+use Rattle.std.proofs.{Common.ap, Common.inl, Common.inr, lemmas.Result.IfErr-weaker}
 use Rattle.std.specs.FinMap as map
-use Rattle.std.proofs.lemmas.Result.{IfErr-weaker}
 use Rattle.wg_outside.specs.Outside.{Files}
 use Rattle.wg_outcomes.proofs.WritingLemmas.{if_that_err, touches_exit, touches_twice}
 use Rattle.wg_queries.proofs.certificate.write_file.Goals as goal

@@ -1,7 +1,6 @@
 use Rattle.std.proofs.Common.{◌≡◌, ◌<◌, ◌∙◌, [], take, get_or, length, ℕ, List, subst, arith}
 use Rattle.std.proofs.lemmas.List.{take_all}
-use Rattle.wg_outside.proofs.PutsLemmas.{is_that_err}
-use Rattle.wg_outside.proofs.RefusalLemmas.{sink_after, sink_exit}
+use Rattle.wg_outside.proofs.{PutsLemmas.is_that_err, RefusalLemmas.sink_after, RefusalLemmas.sink_exit}
 use Rattle.wg_outside.specs.declared.depot.WriteError.{WriteError}
 use Rattle.wg_lines.specs.Printing.{HasPrinted, HasPrintedLess}
 use Rattle.wg_lines.proofs.PrintLemmas.{puts_of_less, puts_in_the_end}

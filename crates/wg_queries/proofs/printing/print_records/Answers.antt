@@ -1,8 +1,7 @@
 use Rattle.std.proofs.Common.{refl}
 use Rattle.wg_params.specs.Parameters.{Parameters}
-use Rattle.wg_outcomes.specs.Judged.{accepted}
+use Rattle.wg_outcomes.specs.{Judged.accepted, Performs.Outside, Performs.out_counts, Performs.outside}
 use Rattle.wg_readings.specs.Passes.{graph_then}
-use Rattle.wg_outcomes.specs.Performs.{Outside, out_counts, outside}
 use Rattle.wg_queries.specs.Printed.{job_of, listed}
 use Rattle.wg_outcomes.specs.declared.status.Input.TheVariants as input
 use Rattle.wg_queries.proofs.PrintedJobs.{printed_again}

@@ -1,10 +1,8 @@
 use Rattle.std.proofs.Common.{◌≡◌, ◌∙◌, inl, inr, Ok, Err, refl, subst}
 use Rattle.wg_outside.proofs.FilesLemmas.{none_falls-trans}
-use Rattle.wg_readings.proofs.LoadLemmas.{graph_loaded, graph_unloaded}
-use Rattle.wg_outcomes.specs.declared.status.Status.TheVariants.{Memory}
-use Rattle.wg_outcomes.specs.Answers.{HasOutput}
+use Rattle.wg_readings.proofs.{LoadLemmas.graph_loaded, LoadLemmas.graph_unloaded, JobSteps.does_exit}
+use Rattle.wg_outcomes.specs.{declared.status.Status.TheVariants.Memory, Answers.HasOutput}
 use Rattle.wg_outcomes.specs.Ranked.{bounds_for, text_for}
-use Rattle.wg_readings.proofs.JobSteps.{does_exit}
 use Rattle.wg_queries.proofs.RankJobs.{certifies, last_is, no_room, no_weights, of_graph, only_prints}
 use Rattle.wg_readings.proofs.GraphJobs.{no_graph, no_params}
 use Rattle.wg_queries.proofs.UntoldLemmas.{all_put, ranks_none, some_ranking, undone_graph, undone_params, undone_reading, undone_room, undone_weights, wants_since}

@@ -1,9 +1,6 @@
 use Rattle.std.proofs.Common.{rules, ◌≡◌, ◌∙◌, ℕ, List, Option, Result, Ok, Err, inl, ap, option_copied, subst, sym}
-use Rattle.wg_rank.specs.Intervals.{by_page}
-use Rattle.wg_rank.specs.Rank.{EnclosesStationary}
-use Rattle.wg_rank.specs.Claims.{IsJudged, weights_for}
-use Rattle.wg_rank.specs.declared.fault.JudgeError.{JudgeError}
-use Rattle.wg_rank.specs.declared.fault.JudgeError.TheVariants.{Falls}
+use Rattle.wg_rank.specs.{Intervals.by_page, Rank.EnclosesStationary, Claims.IsJudged, Claims.weights_for}
+use Rattle.wg_rank.specs.{declared.fault.JudgeError.JudgeError, declared.fault.JudgeError.TheVariants.Falls}
 use Rattle.wg_outcomes.specs.Judged.{status_of}
 use Rattle.wg_outcomes.proofs.VerifyLemmas.{goes_on_with_gap, is_refused_at}
 use Rattle.wg_queries.proofs.verify.judge_bounds.Goals as goal

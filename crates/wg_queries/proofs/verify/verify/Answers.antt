@@ -1,7 +1,6 @@
 use Rattle.std.proofs.Common.{◌∙◌, Ok, Err, refl}
 use Rattle.wg_outcomes.specs.Verified.{verified_line}
-use Rattle.wg_readings.proofs.LoadLemmas.{graph_loaded, graph_unloaded}
-use Rattle.wg_readings.proofs.JobSteps.{does_exit}
+use Rattle.wg_readings.proofs.{LoadLemmas.graph_loaded, LoadLemmas.graph_unloaded, JobSteps.does_exit}
 use Rattle.wg_readings.proofs.GraphJobs.{no_graph, no_params}
 use Rattle.wg_queries.proofs.VerifyJobs.{no_claim, no_gap, no_weights, of_graph, verifies}
 use Rattle.wg_queries.proofs.UntoldLemmas.{all_put, some_gap, undone, undone_claim, undone_gap, undone_graph, undone_params, undone_reading, undone_weights}

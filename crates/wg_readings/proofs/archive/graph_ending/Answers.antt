@@ -1,10 +1,7 @@
 use Rattle.std.proofs.Common.{ap, sym, subst, inl, Err}
 use Rattle.wg_bits.specs.Bits.{bits_of}
-use Rattle.wg_grammar.specs.Archive.{ReadsGraph}
-use Rattle.wg_grammar.specs.Errors.{OfFault}
-use Rattle.wg_outcomes.specs.Answers.{Answers}
-use Rattle.wg_outcomes.specs.Judged.{status_of, with_graph}
-use Rattle.wg_outcomes.specs.declared.ending.Ending.{Ending}
+use Rattle.wg_grammar.specs.{Archive.ReadsGraph, Errors.OfFault}
+use Rattle.wg_outcomes.specs.{Answers.Answers, Judged.status_of, Judged.with_graph, declared.ending.Ending.Ending}
 use Rattle.wg_outcomes.specs.declared.status.Status.{Status}
 use Rattle.wg_readings.proofs.ReadingsLemmas.{is_refused}
 use Rattle.wg_readings.proofs.archive.graph_ending.Goals as goal

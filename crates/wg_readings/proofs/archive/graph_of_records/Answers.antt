@@ -1,7 +1,6 @@
 use Rattle.std.proofs.Common.{◌≡◌, ◌∙◌, ℕ, ap, sym}
 use Rattle.wg_bits.specs.Bits.{bits_of, Position}
-use Rattle.wg_grammar.specs.Archive.{Accepted}
-use Rattle.wg_grammar.specs.Laws.{accepted_graph}
+use Rattle.wg_grammar.specs.{Archive.Accepted, Laws.accepted_graph}
 use Rattle.wg_readings.proofs.ReadingsLemmas.{goes_on}
 use Rattle.wg_readings.proofs.archive.graph_of_records.Goals as goal
 

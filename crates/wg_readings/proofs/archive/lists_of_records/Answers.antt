@@ -1,9 +1,8 @@
 use Rattle.std.proofs.Common.{◌≤◌, ◌∙◌, ap, subst, sym}
 use Rattle.wg_params.specs.declared.limits.TheConstants.{MOST_PAGES}
 use Rattle.wg_graph.specs.Digraph.{Digraph, arc_count}
-use Rattle.wg_grammar.specs.Archive.{Accepted}
+use Rattle.wg_grammar.specs.{Archive.Accepted, Laws.accepted_graph}
 use Rattle.wg_bits.specs.Bits.{bits_of}
-use Rattle.wg_grammar.specs.Laws.{accepted_graph}
 use Rattle.wg_grammar.proofs.ProperGraphs.{arcs_promised}
 use Rattle.wg_readings.proofs.ReadingsLemmas.{goes_on}
 use Rattle.wg_readings.proofs.archive.lists_of_records.Goals as goal

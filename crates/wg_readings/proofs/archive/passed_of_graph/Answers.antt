@@ -1,6 +1,5 @@
 use Rattle.wg_bits.specs.Bits.{bits_of}
-use Rattle.wg_stream.proofs.AcceptedRecords.{read_of}
-use Rattle.wg_stream.proofs.AllRecords.{offsets_count}
+use Rattle.wg_stream.proofs.{AcceptedRecords.read_of, AllRecords.offsets_count}
 use Rattle.wg_readings.proofs.archive.passed_of_graph.Goals as goal
 
 pub returns-in-Ok-clause-count : goal.returns-in-Ok-clause-count

@@ -1,8 +1,7 @@
 use Rattle.std.proofs.Common.{◌∙◌, ℕ, List, [], ◌∷◌, ◌++◌, inr, refl, sym, ap, subst}
 use Rattle.std.specs.FinMap as map
 use Rattle.wg_outside.specs.declared.suffixes.TheConstants.{OFFSETS}
-use Rattle.wg_outside.proofs.FilesLemmas.{none_falls-trans}
-use Rattle.wg_outside.proofs.PutsLemmas.{is_that_err}
+use Rattle.wg_outside.proofs.{FilesLemmas.none_falls-trans, PutsLemmas.is_that_err}
 use Rattle.wg_grammar.specs.Archive.{places_of}
 use Rattle.wg_offsets.specs.Places.{last_place}
 use Rattle.wg_offsets.proofs.WordsLemmas.{last_more}

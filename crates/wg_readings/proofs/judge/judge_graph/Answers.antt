@@ -1,6 +1,5 @@
 use Rattle.std.proofs.Common.{◌∙◌}
-use Rattle.wg_outside.proofs.FilesLemmas.{none_falls-trans}
-use Rattle.wg_outside.proofs.PutsLemmas.{is_that_err}
+use Rattle.wg_outside.proofs.{FilesLemmas.none_falls-trans, PutsLemmas.is_that_err}
 use Rattle.wg_readings.proofs.UnderWay.{begins, goes_further, judged_by}
 use Rattle.wg_readings.proofs.JudgeLemmas.{graph_stops, graph_unread}
 use Rattle.wg_readings.proofs.judge.judge_graph.Goals as goal

@@ -1,15 +1,11 @@
 use Rattle.std.proofs.Common.{◌≡◌, ◌∙◌, ℕ, suc, ◌<◌, ◌≤◌, List, [], ◌∷◌, ◌++◌, ◌+◌, length, take, refl, sym, ap, subst, arith}
 use Rattle.std.specs.Prelude.{get_or}
 use Rattle.std.specs.FinMap as map
-use Rattle.std.proofs.Math.Seq.{take-suc}
-use Rattle.std.proofs.lemmas.List.{take_all}
+use Rattle.std.proofs.{Math.Seq.take-suc, lemmas.List.take_all}
 use Rattle.wg_outside.specs.declared.suffixes.TheConstants.{OFFSETS}
-use Rattle.wg_outside.proofs.FilesLemmas.{none_falls-trans}
-use Rattle.wg_outside.proofs.PutsLemmas.{is_that_err}
-use Rattle.wg_outcomes.specs.Answers.{Steps}
-use Rattle.wg_readings.specs.Loading.{lengths_then}
-use Rattle.wg_outcomes.specs.Names.{file_of}
-use Rattle.wg_readings.specs.Pairing.{ComesWith}
+use Rattle.wg_outside.proofs.{FilesLemmas.none_falls-trans, PutsLemmas.is_that_err}
+use Rattle.wg_outcomes.specs.{Answers.Steps, Names.file_of}
+use Rattle.wg_readings.specs.{Loading.lengths_then, Pairing.ComesWith}
 use Rattle.wg_readings.proofs.PairingLemmas.{come_at, come_before, come_last, come_paired}
 use Rattle.wg_readings.proofs.JudgeLemmas.{offsets_judged, offsets_unread}
 use Rattle.wg_readings.proofs.judge.judge_offsets.Goals as goal

@@ -1,8 +1,7 @@
 use Rattle.std.proofs.Common.{◌≡◌, ℕ, List, ◌+◌, ◌++◌, take, Some, IsTrue}
 use Rattle.std.specs.Prelude.{get_or}
 use Rattle.std.specs.FinMap as map
-use Rattle.wg_outside.specs.Outside.{NonDecreasing}
-use Rattle.wg_outside.specs.declared.suffixes.TheConstants.{OFFSETS}
+use Rattle.wg_outside.specs.{Outside.NonDecreasing, declared.suffixes.TheConstants.OFFSETS}
 use Rattle.wg_readings.specs.Pairing.{ComesWith, HasCome}
 use Rattle.wg_readings.proofs.judge.judge_offsets.Given as goal
 

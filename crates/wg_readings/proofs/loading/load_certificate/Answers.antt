@@ -1,8 +1,6 @@
 use Rattle.std.proofs.Common.{ap, subst, sym, Some}
 use Rattle.wg_outside.proofs.PutsLemmas.{is_that_err}
-use Rattle.wg_outcomes.specs.Judged.{with_claim}
-use Rattle.wg_outcomes.specs.Names.{certificate_named}
-use Rattle.wg_outcomes.specs.declared.status.Input.TheVariants.{Certificate}
+use Rattle.wg_outcomes.specs.{Judged.with_claim, Names.certificate_named, declared.status.Input.TheVariants.Certificate}
 use Rattle.wg_outcomes.proofs.Statuses.{IsOwn}
 use Rattle.wg_readings.specs.Loading.{IsBadCertificate}
 use Rattle.wg_readings.proofs.LoadLemmas.{named_loaded, named_unloaded}

@@ -1,8 +1,6 @@
 use Rattle.std.proofs.Common.{ap, subst, sym, Some}
 use Rattle.wg_outside.proofs.PutsLemmas.{is_that_err}
-use Rattle.wg_outcomes.specs.Judged.{with_map}
-use Rattle.wg_outcomes.specs.Names.{map_named}
-use Rattle.wg_outcomes.specs.declared.status.Input.TheVariants.{Map}
+use Rattle.wg_outcomes.specs.{Judged.with_map, Names.map_named, declared.status.Input.TheVariants.Map}
 use Rattle.wg_outcomes.proofs.Statuses.{IsOwn}
 use Rattle.wg_readings.specs.Loading.{IsBadMap}
 use Rattle.wg_readings.proofs.LoadLemmas.{named_loaded, named_unloaded}

@@ -2,8 +2,7 @@ use Rattle.std.proofs.Common.{◌∙◌, ◌≡◌, inr, ap, subst, sym, Some}
 use Rattle.std.proofs.lemmas.Result.{IfOk-weaker}
 use Rattle.wg_outside.proofs.PutsLemmas.{is_that_err}
 use Rattle.wg_properties.specs.declared.fault.PropFault.{PropFault}
-use Rattle.wg_outcomes.specs.Judged.{with_parameters}
-use Rattle.wg_outcomes.specs.declared.ending.Ending.{Ending}
+use Rattle.wg_outcomes.specs.{Judged.with_parameters, declared.ending.Ending.Ending}
 use Rattle.wg_outcomes.specs.declared.status.Input.TheVariants.{Properties}
 use Rattle.wg_outcomes.specs.declared.status.Status.TheVariants.{BadProperties}
 use Rattle.wg_outcomes.proofs.Statuses.{IsOwn}

@@ -1,7 +1,6 @@
 use Rattle.std.proofs.Common.{◌∙◌, ℕ, List, Option, Some, Ok, Err, ap, refl, subst, sym}
 use Rattle.wg_outside.proofs.PutsLemmas.{is_that_err}
-use Rattle.wg_outcomes.specs.Judged.{Judged, with_weights}
-use Rattle.wg_outcomes.specs.Names.{weights_named}
+use Rattle.wg_outcomes.specs.{Judged.Judged, Judged.with_weights, Names.weights_named}
 use Rattle.wg_outcomes.specs.declared.status.Input.TheVariants.{Weights}
 use Rattle.wg_outcomes.proofs.Statuses.{IsOwn}
 use Rattle.wg_readings.specs.Loading.{IsBadWeights}

@@ -5,8 +5,7 @@ use Rattle.wg_outside.specs.declared.whole.LoadError.TheVariants as load
 use Rattle.wg_source.specs.Held.{HeldBytes}
 use Rattle.wg_outcomes.specs.declared.status.Input.TheVariants.{Offsets}
 use Rattle.wg_readings.specs.Pairing.{status_at}
-use Rattle.wg_readings.proofs.PassLemmas.{found_after}
-use Rattle.wg_readings.proofs.PairingLemmas.{load_stopped}
+use Rattle.wg_readings.proofs.{PassLemmas.found_after, PairingLemmas.load_stopped}
 use Rattle.wg_readings.proofs.pairing.look.Goals as goal
 
 abbrev failed : LoadError → Result (Unit {0}) LoadError

@@ -1,5 +1,4 @@
-use Rattle.std.proofs.Common.{◌∙◌}
-use Rattle.std.proofs.lemmas.Result.{IfOk-from_err}
+use Rattle.std.proofs.{Common.◌∙◌, lemmas.Result.IfOk-from_err}
 use Rattle.wg_readings.proofs.OutsideLemmas.{is_memory, not_looked}
 use Rattle.wg_readings.proofs.records.open_graph.Goals as goal
 

@@ -1,7 +1,5 @@
-use Rattle.std.proofs.Common.{ℕ, length, sym, arith}
-use Rattle.std.proofs.lemmas.Bool.{ne_eqb}
-use Rattle.wg_rank.specs.Sum.{sum_below}
-use Rattle.wg_rank.specs.Intervals.{by_page}
+use Rattle.std.proofs.{Common.ℕ, Common.length, Common.sym, Common.arith, lemmas.Bool.ne_eqb}
+use Rattle.wg_rank.specs.{Sum.sum_below, Intervals.by_page}
 use Rattle.wg_rank.proofs.Sums.{term_le_sum}
 use Rattle.wg_readings.proofs.weights.all_zero.Goals as goal
 

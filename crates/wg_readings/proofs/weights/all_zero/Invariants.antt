@@ -1,6 +1,5 @@
 use Rattle.std.proofs.Common.{◌≡◌}
-use Rattle.wg_rank.specs.Sum.{sum_below}
-use Rattle.wg_rank.specs.Intervals.{by_page}
+use Rattle.wg_rank.specs.{Sum.sum_below, Intervals.by_page}
 use Rattle.wg_readings.proofs.weights.all_zero.Given as goal
 
 -- the weights so far add up to 0

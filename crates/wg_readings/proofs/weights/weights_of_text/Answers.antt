@@ -1,9 +1,6 @@
 use Rattle.std.proofs.Common.{◌≡◌, inl, inr, ℕ, nat_eq, true, List, length, sym, ap, subst, arith}
-use Rattle.wg_rank.specs.Sum.{sum_below}
-use Rattle.wg_rank.specs.Intervals.{by_page}
-use Rattle.wg_outcomes.specs.Answers.{Answers}
-use Rattle.wg_outcomes.specs.Judged.{with_weights}
-use Rattle.wg_outcomes.specs.declared.ending.Ending.{Ending}
+use Rattle.wg_rank.specs.{Sum.sum_below, Intervals.by_page}
+use Rattle.wg_outcomes.specs.{Answers.Answers, Judged.with_weights, declared.ending.Ending.Ending}
 use Rattle.wg_outcomes.specs.declared.status.Status.{Status}
 use Rattle.wg_outcomes.specs.declared.status.WeightsFault.TheVariants as weights
 use Rattle.wg_readings.proofs.ClassLemmas.{by_fault, is_out, some_pages, weights_refused, weights_zero}

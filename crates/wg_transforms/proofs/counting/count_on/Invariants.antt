@@ -1,8 +1,6 @@
 use Rattle.std.proofs.Common.{◌≡◌, List}
-use Rattle.wg_grammar.specs.Record.{Whole}
-use Rattle.wg_grammar.specs.Archive.{lists_of}
-use Rattle.wg_stream.specs.Prefix.{AreBehind}
-use Rattle.wg_stream.specs.Sweeping.{greatest_outdegree}
+use Rattle.wg_grammar.specs.{Record.Whole, Archive.lists_of}
+use Rattle.wg_stream.specs.{Prefix.AreBehind, Sweeping.greatest_outdegree}
 use Rattle.wg_transpose.specs.SoFar.{AreCounts, predecessors_below}
 use Rattle.wg_transforms.proofs.CountingLemmas.{graph_behind}
 use Rattle.wg_transforms.proofs.counting.count_on.Given as goal

@@ -1,11 +1,9 @@
 use Rattle.std.proofs.Common.{rules, ◌≡◌, ℕ, Bool, List, Err, refl, subst, arith}
-use Rattle.std.proofs.lemmas.List.{with_items_is}
-use Rattle.std.proofs.lemmas.List.Elements.{All-replicate}
+use Rattle.std.proofs.{lemmas.List.with_items_is, lemmas.List.Elements.All-replicate}
 use Rattle.wg_outside.proofs.PutsLemmas.{is_that_err}
 use Rattle.wg_bits.specs.Bits.{bits_of}
 use Rattle.wg_params.specs.Parameters.{Parameters}
-use Rattle.wg_grammar.specs.Archive.{ReadsGraph}
-use Rattle.wg_grammar.specs.Errors.{OfFault}
+use Rattle.wg_grammar.specs.{Archive.ReadsGraph, Errors.OfFault}
 use Rattle.wg_transforms.specs.Counting.{CountsArcs}
 use Rattle.wg_transforms.proofs.counting.count_records.Goals as goal
 

@@ -1,7 +1,6 @@
 use Rattle.std.proofs.Common.{inl, inr, refl}
 use Rattle.wg_grammar.specs.Archive.{Accepted}
-use Rattle.wg_outside.proofs.FilesLemmas.{none_falls-refl}
-use Rattle.wg_outside.proofs.PutsLemmas.{is_that_err}
+use Rattle.wg_outside.proofs.{FilesLemmas.none_falls-refl, PutsLemmas.is_that_err}
 use Rattle.wg_transforms.proofs.loaded.judge_archive.Goals as goal
 
 pub returns-in_err-found : goal.returns-in_err-found

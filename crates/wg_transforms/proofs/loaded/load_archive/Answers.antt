@@ -1,30 +1,24 @@
 use Rattle.std.proofs.Common.{◌≡◌, ◌∙◌, ◌⊎◌, inl, inr, ℕ, Bool, List, Option, Ok, Err, refl, sym, ap, subst}
 use Rattle.std.specs.Bool.{IsTrue}
 use Rattle.wg_outside.specs.Outside.{Files, Counts, NonDecreasing}
-use Rattle.wg_outside.proofs.FilesLemmas.{none_falls-trans}
+use Rattle.wg_outside.proofs.{FilesLemmas.none_falls-trans, PutsLemmas.is_that_err}
 use Rattle.wg_bits.specs.Bits.{bits_of}
 use Rattle.wg_params.specs.Parameters.{Parameters, IsWithinLimits}
 use Rattle.wg_properties.specs.declared.fault.PropFault.{PropFault}
 use Rattle.wg_grammar.specs.Archive.{Accepted, ReadsGraph}
-use Rattle.wg_outcomes.specs.Answers.{Answers, Steps, without}
+use Rattle.wg_outcomes.specs.{Answers.Answers, Answers.Steps, Answers.without, Readings.Readings}
 use Rattle.wg_outcomes.specs.Judged.{Judged, refused, with_archive, with_file, with_graph}
 use Rattle.wg_stream.specs.Sweeping.{greatest_outdegree}
 use Rattle.wg_readings.specs.Loading.{JudgesOffsets, Loads, LoadsParams, lengths_then, params_then}
-use Rattle.wg_outcomes.specs.Names.{IsOfInput, file_of, held_by}
-use Rattle.wg_outcomes.specs.Promised.{IsStopAt, ArePromised, IsBadFile}
-use Rattle.wg_outcomes.specs.Readings.{Readings}
-use Rattle.wg_outcomes.specs.declared.ending.Ending.{Ending}
-use Rattle.wg_outcomes.specs.declared.status.Input.{Input}
+use Rattle.wg_outcomes.specs.{Names.IsOfInput, Names.file_of, Names.held_by, declared.ending.Ending.Ending}
+use Rattle.wg_outcomes.specs.{Promised.IsStopAt, Promised.ArePromised, Promised.IsBadFile, declared.status.Input.Input}
 use Rattle.wg_outcomes.specs.declared.status.Input.TheVariants.{Properties, Graph, Offsets}
 use Rattle.wg_outcomes.specs.declared.status.Status.{Status}
 use Rattle.wg_outcomes.specs.declared.status.Status.TheVariants.{Done, ReadFault, Missing, BadProperties}
-use Rattle.wg_readings.proofs.ReadingsLemmas.{goes_on}
+use Rattle.wg_readings.proofs.{ReadingsLemmas.goes_on, UnderWay.cause_later, JobSteps.bad_promised}
 use Rattle.wg_outcomes.proofs.Statuses.{bad_own, bad_unread, own_caused, own_read}
-use Rattle.wg_readings.proofs.UnderWay.{cause_later}
 use Rattle.wg_transforms.specs.Loaded.{IsArchiveFile, IsOfArchive, JudgesArchive, LoadsArchive}
-use Rattle.wg_readings.proofs.JobSteps.{bad_promised}
 use Rattle.wg_outcomes.proofs.PerformsLemmas.{unread_promised}
-use Rattle.wg_outside.proofs.PutsLemmas.{is_that_err}
 use Rattle.wg_transforms.proofs.loaded.load_archive.Goals as goal
 
 -- ---- the end at one of the files

@@ -1,23 +1,14 @@
 use Rattle.std.proofs.Common.{◌≡◌, ◌∙◌, ◌≤◌, ℕ, Bool, List, [], ◌∷◌, length, Option, Ok, Err, refl, sym, ap, subst}
-use Rattle.wg_outside.specs.Outside.{Files, Counts}
-use Rattle.wg_outside.specs.declared.limits.TheConstants.{MOST_BYTES}
-use Rattle.wg_params.specs.Parameters.{Parameters}
-use Rattle.wg_params.specs.declared.limits.TheConstants.{MOST_ARCS}
-use Rattle.wg_graph.specs.Ascending.{Below}
-use Rattle.wg_graph.specs.Digraph.{Digraph}
+use Rattle.wg_outside.specs.{Outside.Files, Outside.Counts, declared.limits.TheConstants.MOST_BYTES}
+use Rattle.wg_params.specs.{Parameters.Parameters, declared.limits.TheConstants.MOST_ARCS}
+use Rattle.wg_graph.specs.{Ascending.Below, Digraph.Digraph}
 use Rattle.wg_shape.specs.Quotient.{quotient_of}
-use Rattle.wg_words.specs.declared.jobs.Job.{Job}
-use Rattle.wg_words.specs.Jobs.{writing}
-use Rattle.wg_words.specs.declared.jobs.Origin.TheVariants.{Quotient}
+use Rattle.wg_words.specs.{declared.jobs.Job.Job, Jobs.writing, declared.jobs.Origin.TheVariants.Quotient}
 use Rattle.wg_params.specs.declared.layout.Layout.{Layout}
-use Rattle.wg_outcomes.specs.Judged.{Judged, map_then}
+use Rattle.wg_outcomes.specs.{Judged.Judged, Judged.map_then, Names.map_named, Readings.Readings, Commands.builds}
 use Rattle.wg_readings.specs.Loading.{IsBadMap, LoadsGraph, LoadsMap, LoadsParams}
-use Rattle.wg_outcomes.specs.Names.{map_named}
-use Rattle.wg_outcomes.specs.Readings.{Readings}
-use Rattle.wg_outcomes.specs.declared.ending.Ending.{Ending}
-use Rattle.wg_outcomes.specs.declared.status.Input.{Input}
+use Rattle.wg_outcomes.specs.{declared.ending.Ending.Ending, declared.status.Input.Input}
 use Rattle.wg_outcomes.specs.declared.status.Input.TheVariants.{Properties, Graph, Map}
-use Rattle.wg_outcomes.specs.Commands.{builds}
 use Rattle.wg_outcomes.specs.Performs.{Outside, Performs}
 use Rattle.wg_readings.proofs.GraphJobs as graphs
 use Rattle.wg_readings.proofs.JobSteps.{ComesTo, ends_without, writes, does_exit}

@@ -1,7 +1,6 @@
 use Rattle.std.proofs.Common.{◌≡◌, refl, subst}
 use Rattle.wg_graph.specs.Digraph.{Digraph}
-use Rattle.wg_shape.specs.Classes.{whole}
-use Rattle.wg_shape.specs.Quotient.{quotient_of}
+use Rattle.wg_shape.specs.{Classes.whole, Quotient.quotient_of}
 use Rattle.wg_writing.specs.Writing.{IsArchiveOf}
 use Rattle.wg_outside.proofs.PutsLemmas.{is_that_err}
 use Rattle.wg_transforms.proofs.quotienting.encode_quotient.Goals as goal

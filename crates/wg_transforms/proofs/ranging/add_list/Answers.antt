@@ -2,8 +2,7 @@ use Rattle.std.proofs.Common.{◌∙◌, ℕ, take, sym, ap, subst, arith}
 use Rattle.wg_params.specs.Parameters.{Parameters}
 use Rattle.wg_graph.specs.Ascending.{Ascends, Below}
 use Rattle.wg_encoder.specs.ArchiveInMemory.{HasEncoded}
-use Rattle.wg_transpose.proofs.InOrder.{one_list_more, list_fits}
-use Rattle.wg_transpose.proofs.Reversed.{list_ascends, list_below}
+use Rattle.wg_transpose.proofs.{InOrder.one_list_more, InOrder.list_fits, Reversed.list_ascends, Reversed.list_below}
 use Rattle.wg_transforms.proofs.ranging.add_list.Goals as goal
 
 pub add-requires-clause-list : goal.add-requires-clause-list

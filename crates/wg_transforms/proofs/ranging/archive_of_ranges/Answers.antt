@@ -1,6 +1,5 @@
-use Rattle.std.proofs.Common.{subst, sym, ◌≤◌, ℕ}
+use Rattle.std.proofs.{Common.subst, Common.sym, Common.◌≤◌, Common.ℕ, lemmas.Result.IfOk-from_err}
 use Rattle.wg_params.specs.declared.limits.TheConstants.{MOST_PAGES}
-use Rattle.std.proofs.lemmas.Result.{IfOk-from_err}
 use Rattle.wg_transforms.proofs.EncodingLemmas.{all_encoded, arcs_begun, as_many, few_encoded, made_of, nodes_begun}
 use Rattle.wg_transforms.proofs.ranging.archive_of_ranges.Goals as goal
 

@@ -1,8 +1,6 @@
 use Rattle.std.proofs.Common.{◌∙◌, List, ℕ, refl, sym}
-use Rattle.wg_params.specs.declared.layout.Layout.{Layout}
-use Rattle.wg_params.specs.Parameters.{params_of}
-use Rattle.wg_words.specs.Jobs.{writing}
-use Rattle.wg_words.specs.declared.jobs.Origin.TheVariants.{Recode}
+use Rattle.wg_params.specs.{declared.layout.Layout.Layout, Parameters.params_of}
+use Rattle.wg_words.specs.{Jobs.writing, declared.jobs.Origin.TheVariants.Recode}
 use Rattle.wg_outcomes.specs.Commands.{builds}
 use Rattle.wg_readings.proofs.GraphJobs.{IsOfGraph, has_graph, no_graph, no_params}
 use Rattle.wg_readings.proofs.JobSteps.{does_exit, writes}

@@ -2,24 +2,16 @@ use Rattle.std.proofs.Common.{◌≡◌, inr, ℕ, ◌+◌, ◌<◌, ◌≤◌, 
 use Rattle.std.specs.Bool.{IsTrue}
 use Rattle.std.specs.FinMap as map
 use Rattle.wg_outside.specs.Outside.{Files, Counts, NonDecreasing}
-use Rattle.wg_outside.proofs.FilesLemmas.{none_falls-trans, none_falls-refl}
+use Rattle.wg_outside.proofs.{FilesLemmas.none_falls-trans, FilesLemmas.none_falls-refl, PutsLemmas.is_that_err}
 use Rattle.wg_params.specs.Parameters.{Parameters, IsWithinLimits}
-use Rattle.wg_grammar.specs.Archive.{Accepted, lists_of}
-use Rattle.wg_grammar.specs.Laws.{accepted_graph}
-use Rattle.wg_grammar.specs.Record.{Whole}
+use Rattle.wg_grammar.specs.{Archive.Accepted, Archive.lists_of, Laws.accepted_graph, Record.Whole}
 use Rattle.wg_stream.proofs.PrefixLemmas.{lists_more}
 use Rattle.wg_stream.specs.Reading.{Reading, IsInStep, IsJudged}
-use Rattle.wg_outcomes.specs.Answers.{IsHindrance}
-use Rattle.wg_outcomes.specs.Names.{file_of, held_by}
-use Rattle.wg_outcomes.specs.declared.ending.Ending.{Ending}
-use Rattle.wg_outcomes.specs.declared.status.Input.TheVariants.{Graph}
-use Rattle.wg_outcomes.specs.declared.status.Status.TheVariants.{Memory}
-use Rattle.wg_readings.specs.Loading.{JudgesGraph, LoadsGraph}
-use Rattle.wg_readings.specs.Passes.{Advances, accepted_of}
-use Rattle.wg_readings.proofs.JudgeLemmas.{reads_want, graph_stops}
-use Rattle.wg_readings.proofs.PassLemmas.{graph_goes}
+use Rattle.wg_outcomes.specs.{Answers.IsHindrance, Names.file_of, Names.held_by, declared.ending.Ending.Ending}
+use Rattle.wg_outcomes.specs.{declared.status.Input.TheVariants.Graph, declared.status.Status.TheVariants.Memory}
+use Rattle.wg_readings.specs.{Loading.JudgesGraph, Loading.LoadsGraph, Passes.Advances, Passes.accepted_of}
+use Rattle.wg_readings.proofs.{JudgeLemmas.reads_want, JudgeLemmas.graph_stops, PassLemmas.graph_goes}
 use Rattle.wg_readings.proofs.UnderWay.{IsUnderWay, all_read, judged_by, begins, goes_further}
-use Rattle.wg_outside.proofs.PutsLemmas.{is_that_err}
 use Rattle.wg_graph.specs.Ascending.{Below}
 use Rattle.wg_transforms.proofs.recode.recoded.Goals as goal
 

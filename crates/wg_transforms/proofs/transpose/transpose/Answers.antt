@@ -1,7 +1,6 @@
 use Rattle.std.proofs.Common.{Ok, Err, List, ℕ, refl}
 use Rattle.wg_params.specs.declared.layout.Layout.{Layout}
-use Rattle.wg_words.specs.Jobs.{writing}
-use Rattle.wg_words.specs.declared.jobs.Origin.TheVariants.{Transpose}
+use Rattle.wg_words.specs.{Jobs.writing, declared.jobs.Origin.TheVariants.Transpose}
 use Rattle.wg_transpose.specs.Transposed.{transposed}
 use Rattle.wg_outcomes.specs.Commands.{builds}
 use Rattle.wg_readings.proofs.GraphJobs.{IsOfGraph, has_graph, no_graph, no_params}

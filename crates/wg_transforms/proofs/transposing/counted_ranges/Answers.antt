@@ -6,8 +6,7 @@ use Rattle.wg_bits.specs.Bits.{bits_of}
 use Rattle.wg_grammar.specs.Laws.{accepted_graph}
 use Rattle.wg_grammar.proofs.ProperGraphs.{arcs_promised}
 use Rattle.wg_readings.proofs.ReadingsLemmas.{goes_on}
-use Rattle.wg_transpose.specs.Transposed.{predecessors}
-use Rattle.wg_transpose.specs.SoFar.{AreCounts}
+use Rattle.wg_transpose.specs.{Transposed.predecessors, SoFar.AreCounts}
 use Rattle.wg_transforms.proofs.transposing.counted_ranges.Goals as goal
 
 pub returns-in_err-found-clause-ends : goal.returns-in_err-found-clause-ends

@@ -1,8 +1,7 @@
 use Rattle.std.proofs.Common.{◌≡◌, ◌∙◌, ℕ, ◌+◌, ◌-◌, ◌<◌, ◌≤◌, max, List, [], ◌∷◌, ◌++◌, length, sym, ap, subst, arith}
 use Rattle.wg_outside.proofs.PutsLemmas.{is_that_err}
 use Rattle.std.proofs.lemmas.List.FromFn.{map-range_with_len_more}
-use Rattle.wg_params.specs.Parameters.{Parameters}
-use Rattle.wg_params.specs.declared.limits.TheConstants.{MOST_ARCS}
+use Rattle.wg_params.specs.{Parameters.Parameters, declared.limits.TheConstants.MOST_ARCS}
 use Rattle.wg_graph.specs.Digraph.{Digraph, arc_count}
 use Rattle.wg_encoder.specs.ArchiveInMemory.{EncodedSoFar, HasEncoded}
 use Rattle.wg_greedy.specs.Laws.{IsList}

@@ -1,7 +1,6 @@
 use Rattle.std.proofs.Common.{◌∙◌, List, map, string_bytes, ap, sym, ⊎_elim, option_and_then}
 use Rattle.clap.specs.Words.{App, Text, fault_of, is_simple, is_simple_and_free, subcommand_of}
-use Rattle.wg_words.specs.Commands.{parsed}
-use Rattle.wg_words.specs.Jobs.{job_from}
+use Rattle.wg_words.specs.{Commands.parsed, Jobs.job_from}
 use Rattle.wg_words.proofs.CommandLemmas.{command_simple, command_free, parsed_none, parsed_some, among_at}
 use Rattle.wg_words.proofs.JobLemmas.{asked_job, asked_none, asked_within}
 use Rattle.wg_words.proofs.asked.job.Goals as goal

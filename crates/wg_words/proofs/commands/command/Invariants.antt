@@ -1,6 +1,5 @@
 use Rattle.std.proofs.Common.{◌≡◌, drop, false}
-use Rattle.clap.specs.Words.{app_of}
-use Rattle.clap.specs.declared.builder.command.Command.TheViews.{out-Command}
+use Rattle.clap.specs.{Words.app_of, declared.builder.command.Command.TheViews.out-Command}
 use Rattle.wg_words.specs.Commands.{app_in, command_app, with_forms}
 use Rattle.wg_words.proofs.commands.command.Given as goal
 

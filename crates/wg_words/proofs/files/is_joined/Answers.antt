@@ -1,5 +1,4 @@
-use Rattle.std.proofs.Common.{◌∙◌, Some, None}
-use Rattle.std.proofs.lemmas.Bool.Decides.{Decides-eqb}
+use Rattle.std.proofs.{Common.◌∙◌, Common.Some, Common.None, lemmas.Bool.Decides.Decides-eqb}
 use Rattle.std.proofs.lemmas.Slice.Eq.{strip_prefix_is}
 use Rattle.wg_words.proofs.FileLemmas.{rest_decides, no_front}
 use Rattle.wg_words.proofs.files.is_joined.Goals as goal

@@ -1,4 +1,4 @@
-use Rattle.std.proofs.Common.{[], refl, arith}
+use Rattle.std.proofs.Common.{[], refl}
 use Rattle.wg_words.proofs.LayoutLemmas.{layout_in_within}
 use Rattle.wg_words.proofs.layout.default_layout.Goals as goal
 

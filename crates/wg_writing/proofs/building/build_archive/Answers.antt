@@ -1,24 +1,17 @@
 use Rattle.std.proofs.Common.{◌≡◌, inl, inr, Bool, List, refl, sym, ap, subst, ◌∙◌, ℕ, Result, Ok, Err}
-use Rattle.std.specs.Bool.{IsTrue}
-use Rattle.std.specs.Result.{IfErr}
-use Rattle.wg_outside.specs.Outside.{Increased}
-use Rattle.wg_outside.specs.Puts.{Puts}
-use Rattle.wg_outside.specs.declared.output.Output.TheVariants.{Out}
+use Rattle.std.specs.{Bool.IsTrue, Result.IfErr}
+use Rattle.wg_outside.specs.{Outside.Increased, Puts.Puts, declared.output.Output.TheVariants.Out}
 use Rattle.wg_outside.proofs.PutsLemmas.{is_that_err}
-use Rattle.wg_params.specs.Parameters.{Parameters}
-use Rattle.wg_params.specs.declared.layout.Layout.{Layout}
+use Rattle.wg_params.specs.{Parameters.Parameters, declared.layout.Layout.Layout}
 use Rattle.wg_graph.specs.Digraph.{Digraph}
 use Rattle.wg_greedy.specs.Archive.{Archive}
 use Rattle.wg_encoder.specs.ArchiveInMemory.{Summarized}
-use Rattle.wg_outcomes.specs.Answers.{HasOutput, IsUnput, status_in}
-use Rattle.wg_outcomes.specs.Commands.{greedy_line, ok_line}
-use Rattle.wg_outcomes.specs.Names.{archive_named}
-use Rattle.wg_outcomes.specs.Performs.{BuildsArchive, Outside}
+use Rattle.wg_outcomes.specs.{Answers.HasOutput, Answers.IsUnput, Answers.status_in, Names.archive_named}
+use Rattle.wg_outcomes.specs.{Commands.greedy_line, Commands.ok_line, Performs.BuildsArchive, Performs.Outside}
 use Rattle.wg_outcomes.specs.Written.{AreWhole, ArchiveFiles, FilesAfter, archive_in, greedy_archive, params_for}
 use Rattle.wg_outcomes.specs.declared.ending.Ending.{Ending}
 use Rattle.wg_outcomes.specs.declared.status.Status.TheVariants.{Memory, WriteFault}
-use Rattle.wg_outcomes.proofs.PerformsLemmas.{output_put, put_last}
-use Rattle.wg_outcomes.proofs.Statuses.{unput_cause}
+use Rattle.wg_outcomes.proofs.{PerformsLemmas.output_put, PerformsLemmas.put_last, Statuses.unput_cause}
 use Rattle.wg_outcomes.proofs.BuildLemmas.{put_stands, put_stopped, stopped_cause, stopped_output}
 use Rattle.wg_writing.specs.Writing.{WritesFiles, archive_of, whole}
 use Rattle.wg_writing.proofs.building.build_archive.Goals as goal

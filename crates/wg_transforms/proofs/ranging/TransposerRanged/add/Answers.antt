@@ -1,7 +1,6 @@
 use Rattle.std.proofs.Common.{◌<◌, ◌∙◌, sym, arith}
 use Rattle.wg_transpose.specs.Transposed.{transposed}
-use Rattle.wg_transpose.proofs.Reversed.{is_proper, successors_are}
-use Rattle.wg_transpose.proofs.Totals.{as_many}
+use Rattle.wg_transpose.proofs.{Reversed.is_proper, Reversed.successors_are, Totals.as_many}
 use Rattle.wg_transforms.specs.Encoding.{IsNextList}
 use Rattle.wg_transforms.proofs.ranging.TransposerRanged.add.Goals as goal
 use Rattle.wg_transforms.proofs.ranging.TransposerRanged.add.Goals.{After-list-list}

@@ -1,6 +1,5 @@
 use Rattle.std.proofs.Common.{arith}
-use Rattle.wg_transpose.proofs.Reversed.{is_proper}
-use Rattle.wg_transpose.proofs.Totals.{as_many}
+use Rattle.wg_transpose.proofs.{Reversed.is_proper, Totals.as_many}
 use Rattle.wg_transforms.proofs.ranging.TransposerRanged.nodes.Goals as goal
 
 pub returns-clause-proper : goal.returns-clause-proper
