@@ -1,7 +1,6 @@
 -- An archive that was built, in a validation.
-use Rattle.std.proofs.Common.{◌≡◌, ℕ, ◌≤◌, List, length, nat_lt, refl, sym, ap, subst, ◌∙◌, arith, inl, inr, Option, Some, None, Result, Ok, Err}
-use Rattle.std.proofs.{lemmas.Bool.cases_Bool, lemmas.Option.none-some, lemmas.Option.same_Some}
-use Rattle.wg_outside.specs.declared.limits.TheConstants.{MOST_BYTES}
+use Rattle.std.proofs.Common.{◌≡◌, ℕ, ◌≤◌, List, length, refl, sym, ap, subst, ◌∙◌, arith, Option, Some, None, Result, Ok}
+use Rattle.std.proofs.{lemmas.Option.same_Some}
 use Rattle.wg_bits.specs.Bits.{bits_of}
 use Rattle.wg_params.specs.{Parameters.Parameters, Parameters.IsWithinLimits, declared.limits.TheConstants.MOST_PAGES}
 use Rattle.wg_properties.specs.Text.{text_of}
@@ -22,7 +21,7 @@ use Rattle.wg_words.proofs.LayoutLemmas.{layout_for_any}
 use Rattle.wg_words.specs.declared.jobs.Job.TheVariants.{Check, Arcs}
 use Rattle.wg_laws.specs.Built.{holding, IsAcceptedAs, BuiltAreAccepted, BuildsAreAccepted}
 use Rattle.wg_outcomes.specs.Commands.{builds, judged, number_lines, ok_line, ranks, successors_lines, with_certificate}
-use Rattle.wg_outcomes.specs.Judged.{Judged, refused, accepted, built, certified, unless_bad_list, unless_bad_properties, weights_then, with_archive, with_digraph, with_file, with_graph, with_lengths, with_list, with_offsets, with_pages, with_parameters, with_places, with_records}
+use Rattle.wg_outcomes.specs.Judged.{Judged, refused, accepted, built, certified, unless_bad_list, weights_then, with_archive, with_digraph, with_file, with_graph, with_lengths, with_list, with_offsets, with_pages, with_places, with_records}
 use Rattle.wg_outcomes.specs.Ranked.{HoldGraph, bounds_for, certificate_text, text_for}
 use Rattle.wg_outcomes.specs.{Readings.Readings, Written.greedy_archive, Written.params_for}
 use Rattle.wg_outcomes.specs.declared.status.Input.{Input}

@@ -1,6 +1,6 @@
 -- The files of a job.
 use Rattle.wg_outcomes.specs.Names.{name_of_input, name_of_output, record_files, archive_files, second_files, list_file, text_file, weights_file, certificate_file, map_file, archive_outputs, certificate_outputs, held_by, file_of_fault}
-use Rattle.std.specs.Prelude.{ℕ, Bool, true, false, nat_lt, ◌==◌, List, [], ◌++◌, length, Option, Some, is_some}
+use Rattle.std.specs.Prelude.{ℕ, Bool, true, false, nat_lt, ◌==◌, List, [], ◌++◌, length, Option, is_some}
 use Rattle.wg_outside.specs.Outside.{Files}
 use Rattle.wg_outside.specs.declared.output.Output.{Output}
 use Rattle.wg_outside.specs.declared.output.Output.TheVariants as output

@@ -1,6 +1,5 @@
 -- The ranking of a graph's pages, and its text.
-use Rattle.std.specs.Prelude.{ℕ, ◌≡◌, ◌≤◌, true, List, ◌++◌, length, map, take, codes, decimal, Option, Some, None, Ok}
-use Rattle.std.specs.List.{range_with_len}
+use Rattle.std.specs.Prelude.{ℕ, ◌≡◌, ◌≤◌, true, List, ◌++◌, map, take, codes, decimal, Option, Some, None, Ok}
 use Rattle.wg_outside.specs.Puts.{joined}
 use Rattle.wg_num.specs.Units.{text_of_units}
 use Rattle.wg_params.specs.declared.limits.TheConstants.{MOST_PAGES, MOST_DAMPING, MOST_ROUNDS}
@@ -10,7 +9,7 @@ use Rattle.wg_graph.specs.Digraph.{Digraph, IsGraph}
 use Rattle.wg_grammar.specs.Archive.{Accepted}
 use Rattle.wg_grammar.specs.Laws.{accepted_graph}
 use Rattle.wg_rank.specs.Rank.{low, high}
-use Rattle.wg_rank.specs.Intervals.{Intervals, AreBoundsOf, by_page}
+use Rattle.wg_rank.specs.Intervals.{Intervals, by_page}
 use Rattle.wg_rank.specs.Certified.{IsCertified}
 use Rattle.wg_rank.specs.Rounds.{bounds_after}
 use Rattle.wg_rank.specs.Claims.{claim_of_bounds}
