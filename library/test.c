@@ -13,11 +13,7 @@
 #include <sys/mman.h>
 #include "webgraph.h"
 
-#define PAGE 4096u
-#define FILL 0xa5
-#define WEIGHED 2
-#define RANGE 4 /* the pages of a range that is told */
-#define WIDE (1 << 16)
+enum { PAGE = 4096, FILL = 0xa5, WEIGHED = 2, RANGE = 4 /* the pages of a range that is told */, WIDE = 1 << 16 };
 
 static __thread long fail_at, allocations;
 static __thread int at_front;
@@ -34,7 +30,6 @@ static void die(const char *base, const char *what, unsigned status) {
 }
 
 /* ---- Buffers */
-
 typedef struct {
     unsigned char *all, *at;
     size_t pages, bytes;
@@ -70,7 +65,6 @@ static buffer file_of(const char *base, const char *suffix) {
 }
 
 /* ---- What is told */
-
 static void tell(FILE *told, const char *call, unsigned status, const wg_fault *fault) {
     static const char *fields[] = {"outdegree", "reference", "blockcount", "block", "copied", "intervalcount", "left",
                                    "length", "residual", "record"};
@@ -111,7 +105,6 @@ static void tell_words(FILE *told, const uint64_t *words, uint64_t count) {
     } while (0)
 
 /* ---- The calls */
-
 typedef struct {
     const char *base;
     buffer params_at, fault_at, graph, file, places;
@@ -372,7 +365,6 @@ static void look_at(const char *base, const uint64_t *pages, size_t count, FILE 
 }
 
 /* ---- Threads */
-
 static pthread_mutex_t lock = PTHREAD_MUTEX_INITIALIZER;
 
 static void *work(void *unused) {
